@@ -1,0 +1,5 @@
+pub mod Cuts
+pub mod Feeds
+pub mod Starts
+pub mod Numerals
+pub mod Rejoined

@@ -1,0 +1,4 @@
+pub mod Parts
+pub mod Cut
+pub mod Laws
+pub mod Numbers

@@ -1,0 +1,9 @@
+pub mod Calls
+pub mod Columns
+pub mod Faults
+pub mod Files
+pub mod Names
+pub mod Only
+pub mod Orders
+pub mod Rows
+pub mod Steps

@@ -1,0 +1,3 @@
+// What the program prints for a day file.
+pub mod file;
+pub mod reply;
