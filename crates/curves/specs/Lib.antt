@@ -1,0 +1,5 @@
+pub mod Costs
+pub mod Curve
+pub mod CurveLaws
+pub mod Fits
+pub mod Priced
