@@ -12,7 +12,7 @@ use Rattle.std.specs.Joined as std
 use Rattle.std.proofs.shelf.Lists.{append-nil, append-assoc, append-cancel-right, length-append, length-push, getD-push, joined-more}
 use Rattle.std.proofs.shelf.Tests.{cond-true, cond-false, cond-both, eq-eqb, ne-eqb, eqb-true, eqb-false}
 use Rattle.cells.specs.Parts.{ahead, parts, cells, lines}
-use Rattle.cells.specs.Laws.{NoneHas, joined, ended, Lines, CellsAreSo, LinesAreSo}
+use Rattle.cells.specs.Laws.{NoneHas, withCommas, ended, Lines, CellsAreSo, LinesAreSo}
 
 -- what holds of the first and of each of the others holds of each
 each-more : {A : Type 0} (d : A) (P : A → Type 0) (x : A) (xs : List A) → P x → ((i : ℕ) → i < length xs → P (getD xs i d)) → (i : ℕ) → i < length (x ∷ xs) → P (getD (x ∷ xs) i d)
@@ -123,7 +123,7 @@ module _ (mark : ℕ) where
       ]
 
 -- cells closed have one comma more than cells joined
-closed-joined : (cs : List (List ℕ)) → 0 < length cs → closed 44 cs ≡ joined cs ++ (44 ∷ [])
+closed-joined : (cs : List (List ℕ)) → 0 < length cs → closed 44 cs ≡ withCommas cs ++ (44 ∷ [])
 closed-joined [] l = absurd (omega arith)
 closed-joined (c ∷ []) l = simp append-nil
 closed-joined (c ∷ (d ∷ cs)) l = rw (closed-joined (d ∷ cs) (omega arith)) (simp append-assoc)

@@ -11,16 +11,16 @@ abbrev pub NoneHas : ℕ → List (List ℕ) → Type 0
 NoneHas byte ps = (i : ℕ) → i < length ps → (k : ℕ) → k < length (getD ps i []) → getD (getD ps i []) k 0 ≡ byte → ⊥
 
 -- the cells with one comma between neighbours
-abbrev pub joined : List (List ℕ) → List ℕ
-joined [] = []
-joined (c ∷ []) = c
-joined (c ∷ (d ∷ cs)) = c ++ (44 ∷ joined (d ∷ cs))
+abbrev pub withCommas : List (List ℕ) → List ℕ
+withCommas [] = []
+withCommas (c ∷ []) = c
+withCommas (c ∷ (d ∷ cs)) = c ++ (44 ∷ withCommas (d ∷ cs))
 
 -- cs are the cells of a line: at least one, none with a comma, and joined with commas they are the line
 pub record Cells (line : List ℕ) (cs : List (List ℕ)) : Type 0 where
   pub some : 0 < length cs
   pub plain : NoneHas 44 cs
-  pub whole : joined cs ≡ line
+  pub whole : withCommas cs ≡ line
 
 -- the lines, each with a line feed after it
 abbrev pub ended : List (List ℕ) → List ℕ

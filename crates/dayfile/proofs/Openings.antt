@@ -27,7 +27,7 @@ module _ (bytes : List ℕ) where
   -- the names are refused, and nothing is left
   pub opened-none : (f : Fault) (rows : RowReader) → rows .read ≡ 0 → NamesRead (nameLine bytes) (Err f) → left rows ≡ [] → Opened bytes rows
   opened-none f rows zero told none = record {
-    none = zero;
+    unread = zero;
     good = λ named other. (let e = names-only (nameLine bytes) (Ok named) (Err f) other told in let z : _≡_ {A = ℕ} 0 1 = cc in absurd (omega arith));
     refused = λ g other. none;
   }
@@ -35,7 +35,7 @@ module _ (bytes : List ℕ) where
   -- the names are good, and all but their line is left
   pub opened-all : (rows : RowReader) (end : ℕ) → rows .read ≡ 0 → NamesRead (nameLine bytes) (Ok (orderIn rows)) → end ≡ length (upTo 10 bytes) → drop (rows .at) (now (rows .bytes)) ≡ drop (end + 1) bytes → Opened bytes rows
   opened-all rows end zero told e rest = record {
-    none = zero;
+    unread = zero;
     good = λ named other. (let same = names-only (nameLine bytes) (Ok (orderIn rows)) (Ok named) told other in (cc, ap lines rest ∙ after bytes end e));
     refused = λ f other. (let e = names-only (nameLine bytes) (Ok (orderIn rows)) (Err f) told other in let z : _≡_ {A = ℕ} 0 1 = cc in absurd (omega arith));
   }

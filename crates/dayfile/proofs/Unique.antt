@@ -20,13 +20,14 @@ use Rattle.dayfile.specs.declared.row.Row.{Row}
 use Rattle.dayfile.specs.declared.row.Row.the-variants.{Register, File, Round, InForce}
 use Rattle.dayfile.specs.Columns.{nameOf}
 use Rattle.dayfile.specs.Faults.{namesFault}
-use Rattle.dayfile.specs.Names.{Distinct, Begins, Names, Stops}
+use Rattle.dayfile.specs.Names.{Among, Distinct, Begins, Names, Stops}
 use Rattle.dayfile.specs.Only.{NamesOnly, RowsOnly}
 use Rattle.dayfile.specs.Rows.{Holds, HasAt, Asks, CallAt, BadCall, BadCell, Wrong}
 use Rattle.dayfile.specs.Steps.{rowWith}
 use Rattle.dayfile.proofs.Columns.{same-named}
 use Rattle.dayfile.proofs.Orders.{same-place}
 use Rattle.dayfile.proofs.Rows.{callIn, held-called}
+use Rattle.dayfile.proofs.Seven.{seven-all}
 
 module _ (line : List ℕ) where
   -- a line has a cell for each name that it begins with
@@ -131,12 +132,13 @@ module _ (cs : List Column) (once : Distinct cs) (n : ℕ) (line : List ℕ) whe
 
 -- two rows have the same cells, a row and a fault exclude each other, and two faults are one
 pub rows-only : RowsOnly
-rows-only cs once all n line (Ok r) (Ok s) p q =
-    ap Ok (same-row (λ c. getD (cells line) (all c .0) []) r s (under r p) (under s q))
+rows-only cs once seven n line (Ok r) (Ok s) p q =
+    let all = seven-all cs seven once in
+    ap Ok (same-row (λ c. getD (cells line) (all c .0) []) r s (under all r p) (under all s q))
   where
     -- the row that a line asks has the cell under each column
-    under : (r : Row) → Asks cs line r → (c : Column) → Holds r c (getD (cells line) (all c .0) [])
-    under r p c = subst (λ d. Holds r d (getD (cells line) (all c .0) [])) (all c .2) (p .each (all c .0) (all c .1))
-rows-only cs once all n line (Ok r) (Err g) p q = absurd (never-wrong cs n line r g p q)
-rows-only cs once all n line (Err f) (Ok s) p q = absurd (never-wrong cs n line s f q p)
-rows-only cs once all n line (Err f) (Err g) p q = ap Err (one-fault cs once n line f g p q)
+    under : (all : (c : Column) → Among c cs) (r : Row) → Asks cs line r → (c : Column) → Holds r c (getD (cells line) (all c .0) [])
+    under all r p c = subst (λ d. Holds r d (getD (cells line) (all c .0) [])) (all c .2) (p .each (all c .0) (all c .1))
+rows-only cs once seven n line (Ok r) (Err g) p q = absurd (never-wrong cs n line r g p q)
+rows-only cs once seven n line (Err f) (Ok s) p q = absurd (never-wrong cs n line s f q p)
+rows-only cs once seven n line (Err f) (Err g) p q = ap Err (one-fault cs once n line f g p q)

@@ -28,7 +28,7 @@ left rows = lines (drop (rows .at) (now (rows .bytes)))
 
 -- the rows of a file, none of them read: the lines after the names, in the order that these give; none where they are refused
 pub record Opened (bytes : List ℕ) (rows : RowReader) : Type 0 where
-  pub none : rows .read ≡ 0
+  pub unread : rows .read ≡ 0
   pub good : (cs : List Column) → NamesRead (nameLine bytes) (Ok cs) → (orderIn rows ≡ cs) × (left rows ≡ drop 1 (lines bytes))
   pub refused : (f : Fault) → NamesRead (nameLine bytes) (Err f) → left rows ≡ []
 

@@ -9,7 +9,8 @@ pub enum Layer {
     Book,
 }
 
-// A fault: the layer that finds it, its line and cell, both counted from 1, and its number.
+// A fault: the layer that finds it, its line, its cell, and its number. Lines and cells count from 1;
+// the cell of 23 is the count of cells, and 0 is no cell.
 #[derive(Clone, Copy)]
 pub struct Fault {
     pub layer: Layer,

@@ -1,9 +1,10 @@
-ghost use lib.ListN.{getD};
+ghost use lib.ListN.{length, getD};
 ghost use mathlib.Core.List.{[]};
 ghost use mathlib.Core.Path.{_≡_};
 ghost use Prim.Native.Nat.{_<_};
 ghost use Rattle.cells.specs.Cut.{lineIn};
 ghost use Rattle.cells.specs.Parts.{cells};
+ghost use Rattle.dayfile.specs.Columns.{columns};
 ghost use Rattle.dayfile.specs.Steps.{goodCell, rowWith, FigureOf, FiguresOf};
 use crate::call::Call;
 use crate::call::uses;
@@ -30,7 +31,7 @@ pub(crate) struct Figures {
 
 // The bytes of the cell at a place.
 pub(crate) fn bytes_at<'a>(cut: &CutLine<'a, COLUMNS>, k: usize) -> &'a [u8]
-    ensures { λ r. ⌜ (k < 7 → now r ≡ getD (cells (lineIn (now (cut .entry)))) k []) ⌝ }
+    ensures { λ r. ⌜ (k < length columns → now r ≡ getD (cells (lineIn (now (cut .entry)))) k []) ⌝ }
 {
     match cut.cell(k) {
         Some(cell) => cell.bytes,

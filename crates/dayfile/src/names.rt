@@ -4,7 +4,7 @@ ghost use mathlib.Core.Path.{_≡_};
 ghost use Prim.Native.Nat.{ℕ, _+_, _<_, _≤_};
 ghost use Rattle.cells.specs.Cut.{lineIn};
 ghost use Rattle.cells.specs.Parts.{cells};
-ghost use Rattle.dayfile.specs.Columns.{nameOf};
+ghost use Rattle.dayfile.specs.Columns.{columns, nameOf};
 ghost use Rattle.dayfile.specs.Faults.{namesFault};
 ghost use Rattle.dayfile.specs.Names.{Among, New, NamesRead};
 ghost use Rattle.dayfile.specs.Orders.{columnsOf};
@@ -34,7 +34,7 @@ pub(crate) fn order_of(line: &[u8]) -> Result<Order, Fault>
 
 // No cell stands behind those of the columns.
 fn no_more(cut: &CutLine<'_, COLUMNS>) -> Result<(), Fault>
-    ensures { λ r. ⌜ ByOk r (λ _. length (cells (lineIn (now (cut .entry)))) ≤ 7) (λ f. (7 < length (cells (lineIn (now (cut .entry))))) × (f ≡ namesFault 8)) ⌝ }
+    ensures { λ r. ⌜ ByOk r (λ _. length (cells (lineIn (now (cut .entry)))) ≤ length columns) (λ f. (length columns < length (cells (lineIn (now (cut .entry))))) × (f ≡ namesFault (length columns + 1))) ⌝ }
 {
     if cut.count() > COLUMNS {
         return Err(Fault::names(COLUMNS + 1));
@@ -44,7 +44,7 @@ fn no_more(cut: &CutLine<'_, COLUMNS>) -> Result<(), Fault>
 
 // The column that the cell after those seen names, if it is a new one.
 fn next_name(cut: &CutLine<'_, COLUMNS>, seen: &[Column]) -> Result<Column, Fault>
-    ensures { λ r. ⌜ ByOk r (λ c. New (lineIn (now (cut .entry))) (now (seen .entry)) c) (λ f. (f ≡ namesFault (length (now (seen .entry)) + 1)) × (length (now (seen .entry)) < 7 → (c : Column) → New (lineIn (now (cut .entry))) (now (seen .entry)) c → ⊥)) ⌝ }
+    ensures { λ r. ⌜ ByOk r (λ c. New (lineIn (now (cut .entry))) (now (seen .entry)) c) (λ f. (f ≡ namesFault (length (now (seen .entry)) + 1)) × (length (now (seen .entry)) < length columns → (c : Column) → New (lineIn (now (cut .entry))) (now (seen .entry)) c → ⊥)) ⌝ }
 {
     let fault = Fault::names(seen.len() + 1);
     let cell = cut.cell(seen.len()).ok_or(fault)?;

@@ -5,7 +5,7 @@ ghost use Rattle.dayfile.specs.Names.{Distinct};
 use crate::column::COLUMNS;
 use crate::column::Column;
 
-// The order of the columns in a file: every column, once.
+// The order of the columns in a file: as many as there are, all different.
 #[derive(Clone, Copy)]
 pub struct Order {
     pub columns: [Column; COLUMNS],
@@ -14,7 +14,7 @@ pub struct Order {
 }
 
 impl Order {
-    // The columns in the order in which these pages name them.
+    // The columns in the order in which they are declared.
     pub(crate) fn standard() -> Order
         ensures { λ r. ⌜ r .columns ≡ seven ⌝ }
     {

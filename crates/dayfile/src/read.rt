@@ -2,6 +2,7 @@ ghost use lib.ListN.{length, getD, drop};
 ghost use mathlib.Core.Path.{_≡_};
 ghost use Prim.Native.Nat.{_<_};
 ghost use Rattle.cells.specs.Cut.{lineIn};
+ghost use Rattle.dayfile.specs.Columns.{columns};
 ghost use Rattle.dayfile.specs.Rows.{RowRead};
 ghost use Rattle.dayfile.specs.Steps.{CallRead, CellsChecked};
 ghost use Rattle.dayfile.specs.declared.column.Column.the-variants.{Call as CallColumn};
@@ -42,7 +43,7 @@ fn read_call(cut: &CutLine<'_, COLUMNS>, order: &Order, line: usize) -> Result<C
 
 // The place of the call cell.
 fn call_place(order: &Order) -> usize
-    ensures within { λ r. ⌜ r < 7 ⌝ }
+    ensures within { λ r. ⌜ r < length columns ⌝ }
     ensures among { λ r. ⌜ r < length (now (order .entry) .columns) ⌝ }
     ensures is { λ r. ⌜ getD (now (order .entry) .columns) r CallColumn ≡ CallColumn ⌝ }
 {

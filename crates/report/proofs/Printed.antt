@@ -4,12 +4,14 @@ use mathlib.Core.List.{List, [], _∷_, _++_, append-nil, append-assoc}
 use Prim.Native.Nat.{ℕ, _+_}
 use native.Mathlib.Omega.{arith}
 use Rattle.dayfile.specs.declared.entry.Entry.{Entry}
+use Rattle.dayfile.specs.declared.fault.Fault.{Fault}
 use Rattle.dayfile.specs.declared.reader.RowReader.{RowReader}
 use Rattle.dayfile.specs.Files.{orderIn, left, Next}
 use Rattle.dayfile.specs.Rows.{RowRead}
 use Rattle.std.specs.declared.option.Option.the-variants.{Some}
 use Rattle.std.proofs.shelf.Lists.{joined-more}
-use Rattle.report.specs.Replies.{replyLine, entryReply}
+use Rattle.report.specs.declared.reply.Reply.{Reply}
+use Rattle.report.specs.Replies.{replyLine, faultReply, entryReply}
 use Rattle.report.specs.Reports.{EntriesRead, printed}
 
 -- of the lines that the reader `first` had left, those that `rows` has not are printed behind `start`
@@ -41,3 +43,7 @@ module _ (first : RowReader) (start : List ℕ) (rows : RowReader) (out : List �
 -- what stands behind a text that is known
 pub behind : (out start known more : List ℕ) → out ≡ start ++ more → start ≡ known → out ≡ known ++ more
 behind out start known more e is = e ∙ ap (λ l. l ++ more) is
+
+-- the reply to a fault that is known
+pub told : (out start : List ℕ) (x : Reply) (f known : Fault) → out ≡ start ++ replyLine x → x ≡ faultReply f → f ≡ known → out ≡ start ++ replyLine (faultReply known)
+told out start x f known e reply is = e ∙ ap (λ y. start ++ replyLine y) (reply ∙ ap faultReply is)

@@ -8,11 +8,11 @@ use Rattle.cells.specs.Parts.{lines}
 use Rattle.dayfile.specs.declared.column.Column.{Column}
 use Rattle.dayfile.specs.declared.entry.Entry.{Entry}
 use Rattle.dayfile.specs.declared.fault.Fault.{Fault}
+use Rattle.dayfile.specs.Faults.{namesFault}
 use Rattle.dayfile.specs.Files.{nameLine}
 use Rattle.dayfile.specs.Names.{NamesRead}
 use Rattle.dayfile.specs.Rows.{RowRead}
 use Rattle.std.specs.Joined.{joined}
-use Rattle.std.specs.declared.option.Option.the-variants.{Some}
 use Rattle.std.specs.declared.result.Result.the-variants.{Ok, Err}
 use Rattle.report.specs.Replies.{header, replyLine, faultReply, entryReply}
 
@@ -37,10 +37,10 @@ Body bytes out =
     ((f : Fault) × NamesRead (nameLine bytes) (Err f) × (out ≡ replyLine (faultReply f)))
     ⊎ ((cs : List Column) × (es : List Entry) × NamesRead (nameLine bytes) (Ok cs) × EntriesRead cs 2 (drop 1 (lines bytes)) es × (out ≡ printed es))
 
--- a longer file is answered by 21 at line 1, cell 0
+-- a longer file is answered by 21 with cell 0
 abbrev pub Report : List ℕ → List ℕ → Type 0
 Report bytes out =
-    ((limit < length bytes) × (out ≡ header ++ replyLine (record { line = 1; answer = 21; cell = Some 0 })))
+    ((limit < length bytes) × (out ≡ header ++ replyLine (faultReply (namesFault 0))))
     ⊎ ((length bytes ≤ limit) × ((body : List ℕ) × Body bytes body × (out ≡ header ++ body)))
 
 -- a file has one report and no other

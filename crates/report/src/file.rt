@@ -4,7 +4,7 @@ ghost use Prim.Native.Nat.{ℕ, _+_};
 ghost use Rattle.cells.specs.Numbers.{ReadsBack};
 ghost use Rattle.dayfile.specs.Files.{orderIn, left};
 ghost use Rattle.report.specs.Replies.{replyLine};
-ghost use Rattle.report.specs.Reports.{EntriesRead, printed, Body, Report, ReportOnly};
+ghost use Rattle.report.specs.Reports.{limit, EntriesRead, printed, Body, Report, ReportOnly};
 ghost use Rattle.std.specs.Of.String.{string-bytes};
 ghost use Rattle.std.specs.Vec.{made};
 use crate::reply::Reply;
@@ -12,13 +12,21 @@ use crate::reply::entry_reply;
 use crate::reply::fault_reply;
 use crate::reply::reply_line;
 use dayfile::entry::Entry;
+use dayfile::fault::Fault;
 use dayfile::reader::RowReader;
 use dayfile::reader::UnreadFile;
 use std::alloc::AllocError;
 use std::alloc::Global;
 
-// The most bytes of a file.
+// The most bytes of a file that is looked into.
 pub const LIMIT: usize = 65_536;
+
+// How many bytes are read: one more than the limit tells a file that is too long.
+pub fn bytes_to_read() -> u64
+    ensures { λ r. ⌜ r ≡ limit + 1 ⌝ }
+{
+    LIMIT as u64 + 1
+}
 
 // All that is printed for a file.
 pub fn report(heap: Global, bytes: &[u8]) -> Result<String, AllocError>
@@ -35,15 +43,7 @@ fn printed_file(heap: Global, bytes: &[u8]) -> Result<String, AllocError>
 {
     let mut out = String::from_str(heap, "line,answer,p,q,r,s\n")?;
     if bytes.len() > LIMIT {
-        add(
-            heap,
-            &mut out,
-            Reply {
-                line: 1,
-                answer: 21,
-                cell: Some(0),
-            },
-        )?;
+        add(heap, &mut out, fault_reply(Fault::names(0)))?;
         return Ok(out);
     }
     add_file(heap, &mut out, bytes)?;

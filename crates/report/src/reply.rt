@@ -1,7 +1,7 @@
 ghost use lib.Chars.{codes};
 ghost use mathlib.Core.List.{_++_};
 ghost use mathlib.Core.Path.{_≡_};
-ghost use Rattle.report.specs.Replies.{replyLine, faultReply, entryReply};
+ghost use Rattle.report.specs.Replies.{shownCell, replyLine, faultReply, entryReply};
 ghost use Rattle.std.specs.Of.String.{string-bytes};
 ghost use Rattle.std.specs.Vec.{made};
 ghost use Rattle.std.specs.Written.{decimal};
@@ -52,20 +52,21 @@ pub fn entry_reply(entry: Entry) -> Reply
 pub fn reply_line(heap: Global, reply: Reply) -> Result<String, AllocError>
     ensures { λ r. ⌜ made r (λ s. string-bytes s ≡ replyLine reply) ⌝ }
 {
-    match reply.cell {
-        Some(cell) => with_cell(heap, reply.line, reply.answer, cell),
-        None => without_cell(heap, reply.line, reply.answer),
+    let cell = cell_text(heap, reply.cell)?;
+    laid_out(heap, reply.line, reply.answer, cell.as_str())
+}
+
+fn cell_text(heap: Global, cell: Option<usize>) -> Result<String, AllocError>
+    ensures { λ r. ⌜ made r (λ s. string-bytes s ≡ shownCell cell) ⌝ }
+{
+    match cell {
+        Some(n) => format!(heap, "{n}"),
+        None => String::from_str(heap, "-"),
     }
 }
 
-fn with_cell(heap: Global, line: usize, answer: u32, cell: usize) -> Result<String, AllocError>
-    ensures { λ r. ⌜ made r (λ s. string-bytes s ≡ decimal line ++ (codes "," ++ (decimal answer ++ (codes "," ++ (decimal cell ++ codes ",-,-,-\n"))))) ⌝ }
+fn laid_out(heap: Global, line: usize, answer: u32, cell: &str) -> Result<String, AllocError>
+    ensures { λ r. ⌜ made r (λ s. string-bytes s ≡ decimal line ++ (codes "," ++ (decimal answer ++ (codes "," ++ (now (cell .entry) ++ codes ",-,-,-\n"))))) ⌝ }
 {
     format!(heap, "{line},{answer},{cell},-,-,-\n")
-}
-
-fn without_cell(heap: Global, line: usize, answer: u32) -> Result<String, AllocError>
-    ensures { λ r. ⌜ made r (λ s. string-bytes s ≡ decimal line ++ (codes "," ++ (decimal answer ++ codes ",-,-,-,-\n"))) ⌝ }
-{
-    format!(heap, "{line},{answer},-,-,-,-\n")
 }

@@ -1,6 +1,9 @@
 // Odd day files, and what is printed for each.
 #[cfg(test)]
 mod tests {
+    use cells::line::CutLine;
+    use dayfile::reader::UnreadFile;
+    use dayfile::row::Row;
     use report::file::report;
     use std::test::*;
 
@@ -229,5 +232,73 @@ mod tests {
     fn longest(rt: LibcRuntime) -> Result<(), Fail> {
         file_of(&rt, 65_536, "2,23,1,-,-,-\n")?;
         file_of(&rt, 65_537, "1,21,0,-,-,-\n")
+    }
+
+    // The names and line feeds, to the last byte that is taken: a line is printed for each.
+    #[test]
+    fn most_rows(rt: LibcRuntime) -> Result<(), Fail> {
+        let mut file = b"call,unit,minute,from,to,kw,price\n".to_vec(rt.alloc())?;
+        for _ in file.len()..65_536 {
+            file.push(b'\n')?;
+        }
+        let printed = report(rt.alloc(), file.as_slice())?;
+        let mut count = 0usize;
+        for byte in printed.as_bytes() {
+            if *byte == b'\n' {
+                count = count.saturating_add(1);
+            }
+        }
+        check_eq(count, 65_503)
+    }
+
+    // A file whose names are refused has no rows, though the refusal is not looked at.
+    #[test]
+    fn rows_of_refused_names(_rt: LibcRuntime) -> Result<(), Fail> {
+        let mut rows = UnreadFile::new(b"call,unit\nQ,0,-,12,-,-,-\n").rows();
+        check(rows.next_row().is_none())
+    }
+
+    // Each field of a row is read from the cell under its own name.
+    #[test]
+    fn fields(_rt: LibcRuntime) -> Result<(), Fail> {
+        let mut rows = UnreadFile::new(
+            b"price,kw,to,from,minute,unit,call\n6,5,4,3,-2,1,F\n",
+        ).rows();
+        let Some(entry) = rows.next_row() else {
+            return check(false);
+        };
+        let Ok(
+            Row::File {
+                unit,
+                minute,
+                from,
+                to,
+                kw,
+                price,
+            },
+        ) = entry.row
+        else {
+            return check(false);
+        };
+        check_eq(entry.line, 2)?;
+        check_eq(unit, 1)?;
+        check_eq(minute, -2)?;
+        check_eq(from, 3)?;
+        check_eq(to, 4)?;
+        check_eq(kw, 5)?;
+        check_eq(price, 6)
+    }
+
+    // A cell's offset counts from the first byte of the file.
+    #[test]
+    fn offsets(_rt: LibcRuntime) -> Result<(), Fail> {
+        let cut = CutLine::<'_, 2>::cut(b"ab\nc,de,f", 3);
+        check_eq(cut.count(), 3)?;
+        let Some(cell) = cut.cell(1) else {
+            return check(false);
+        };
+        check_eq(cell.at, 5)?;
+        check_eq(cell.bytes, b"de")?;
+        check(cut.cell(2).is_none())
     }
 }

@@ -12,7 +12,7 @@ use crate::part::next_start;
 use crate::part::part_at;
 
 impl<'a, const N: usize> CutLine<'a, N> {
-    // Cuts what stands from `from` on.
+    // Cuts what stands from `from` on, to the end of `bytes`.
     pub fn cut(bytes: &'a [u8], from: usize) -> CutLine<'a, N>
         ensures line { λ r. ⌜ lineIn r ≡ drop from (now (bytes .entry)) ⌝ }
         ensures bytes { λ r. ⌜ now (r .bytes) ≡ now (bytes .entry) ⌝ }
