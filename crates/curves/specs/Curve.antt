@@ -18,9 +18,13 @@ stepsIn s = take (s .count) (s .places)
 abbrev pub packed : List Step → Steps
 packed ss = record { places = ss ++ replicate (8 - length ss) (record { upper = pos 0; price = pos 0 }); count = length ss }
 
--- what the step above `lower` kW adds at output q: its part of the output, times its price
+-- the part of output q that the step above `lower` kW has
+abbrev pub partOf : ℤ → ℤ → Step → ℤ
+partOf q lower s = minZ q (s .upper) -ℤ minZ q lower
+
+-- what it adds to the cost: that part times its price
 abbrev pub partCost : ℤ → ℤ → Step → ℤ
-partCost q lower s = (minZ q (s .upper) -ℤ minZ q lower) *ℤ s .price
+partCost q lower s = partOf q lower s *ℤ s .price
 
 -- the sum over the steps above `lower` kW
 abbrev pub costAbove : ℤ → ℤ → List Step → ℤ

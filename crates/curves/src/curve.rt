@@ -3,7 +3,7 @@ ghost use lib.ListN.{length};
 ghost use lib.Signed.{_≤ℤ_, _<ℤ_};
 ghost use mathlib.Core.Path.{_≡_};
 ghost use Prim.Native.Nat.{ℕ, _≤_, _<_};
-ghost use Rattle.curves.specs.Curve.{upperAt, priceAt, lowerAt, priceBefore, rises, climbs, lastUpper, above, cappedSteps, partCost, costAt};
+ghost use Rattle.curves.specs.Curve.{upperAt, priceAt, lowerAt, priceBefore, rises, climbs, lastUpper, above, cappedSteps, partOf, partCost, costAt};
 ghost use Rattle.curves.specs.Fits.{PartFits, CostFits};
 ghost use Rattle.std.specs.Numbers.{minZ};
 use crate::steps::Step;
@@ -131,5 +131,13 @@ fn part_cost(step: &Step, lower: i64, output: i64) -> i64
     requires { ⌜ PartFits (now step) lower output ⌝ }
     ensures value { λ r. ⌜ r ≡ partCost output lower (now (step .entry)) ⌝ }
 {
-    (output.min(step.upper) - output.min(lower)) * step.price
+    part(step, lower, output) * step.price
+}
+
+// The part of an output that a step above `lower` kW has.
+fn part(step: &Step, lower: i64, output: i64) -> i64
+    requires { ⌜ PartFits (now step) lower output ⌝ }
+    ensures value { λ r. ⌜ r ≡ partOf output lower (now (step .entry)) ⌝ }
+{
+    output.min(step.upper) - output.min(lower)
 }

@@ -1,50 +1,28 @@
 use mathlib.Core.Path.{_≡_, refl}
 use borrow.Author.Needs.{needs}
-use lib.IntN.{_-ℤ_, _*ℤ_}
+use lib.IntN.{_*ℤ_}
 use mir.Syntax.{w64}
 use mir.Val.{SFits}
 use Rattle.std.proofs.shelf.Signed.{toZ-ofZ}
-use Rattle.curves.proofs.Curves.{part-difference, part-product}
+use Rattle.curves.proofs.Curves.{part-product}
 use Rattle.curves.proofs.curve.part_cost.Needs as need
-
-pub sub-result : need.sub-result
-sub-result c =
-    let f : SFits w64 (c .args .step .now .upper) = search needs in
-    let g : SFits w64 (c .args .step .now .price) = search needs in
-    let o = c .fits .output in
-    let l = c .fits .lower in
-    let m = simp toZ-ofZ at (c .min .ensures .value) in
-    let n = simp toZ-ofZ at (c .min-2 .ensures .value) in
-    let a : SFits w64 (c .min .result) = record { sfits = c .min .ok } in
-    let b : SFits w64 (c .min-2 .result) = record { sfits = c .min-2 .ok } in
-    let d : SFits w64 (c .min .result -ℤ c .min-2 .result) = rw (m, n) (part-difference (c .args .step .now) (c .args .lower) (c .args .output) (c .pre)) in
-    let p : SFits w64 ((c .min .result -ℤ c .min-2 .result) *ℤ c .args .step .now .price) = rw (m, n) (part-product (c .args .step .now) (c .args .lower) (c .args .output) (c .pre)) in
-    simp toZ-ofZ d
 
 pub mul-result : need.mul-result
 mul-result c =
-    let f : SFits w64 (c .args .step .now .upper) = search needs in
     let g : SFits w64 (c .args .step .now .price) = search needs in
     let o = c .fits .output in
     let l = c .fits .lower in
-    let m = simp toZ-ofZ at (c .min .ensures .value) in
-    let n = simp toZ-ofZ at (c .min-2 .ensures .value) in
-    let a : SFits w64 (c .min .result) = record { sfits = c .min .ok } in
-    let b : SFits w64 (c .min-2 .result) = record { sfits = c .min-2 .ok } in
-    let d : SFits w64 (c .min .result -ℤ c .min-2 .result) = rw (m, n) (part-difference (c .args .step .now) (c .args .lower) (c .args .output) (c .pre)) in
-    let p : SFits w64 ((c .min .result -ℤ c .min-2 .result) *ℤ c .args .step .now .price) = rw (m, n) (part-product (c .args .step .now) (c .args .lower) (c .args .output) (c .pre)) in
+    let m = simp toZ-ofZ at (c .part .ensures .value) in
+    let a : SFits w64 (c .part .result) = record { sfits = c .part .ok } in
+    let p : SFits w64 (c .part .result *ℤ c .args .step .now .price) = rw m (part-product (c .args .step .now) (c .args .lower) (c .args .output) (c .pre)) in
     simp toZ-ofZ p
 
 pub returns : need.returns
 returns c =
-    let f : SFits w64 (c .args .step .now .upper) = search needs in
     let g : SFits w64 (c .args .step .now .price) = search needs in
     let o = c .fits .output in
     let l = c .fits .lower in
-    let m = simp toZ-ofZ at (c .min .ensures .value) in
-    let n = simp toZ-ofZ at (c .min-2 .ensures .value) in
-    let a : SFits w64 (c .min .result) = record { sfits = c .min .ok } in
-    let b : SFits w64 (c .min-2 .result) = record { sfits = c .min-2 .ok } in
-    let d : SFits w64 (c .min .result -ℤ c .min-2 .result) = rw (m, n) (part-difference (c .args .step .now) (c .args .lower) (c .args .output) (c .pre)) in
-    let p : SFits w64 ((c .min .result -ℤ c .min-2 .result) *ℤ c .args .step .now .price) = rw (m, n) (part-product (c .args .step .now) (c .args .lower) (c .args .output) (c .pre)) in
-    record { value = simp toZ-ofZ (rw (m, n) refl) }
+    let m = simp toZ-ofZ at (c .part .ensures .value) in
+    let a : SFits w64 (c .part .result) = record { sfits = c .part .ok } in
+    let p : SFits w64 (c .part .result *ℤ c .args .step .now .price) = rw m (part-product (c .args .step .now) (c .args .lower) (c .args .output) (c .pre)) in
+    record { value = simp toZ-ofZ (rw m refl) }
