@@ -18,6 +18,15 @@ use Rattle.curves.proofs.Decisions.{ltZ-to}
 use Rattle.curves.proofs.Places.{rising-decided}
 use Rattle.curves.proofs.Products.{times-plus}
 
+-- at output 0 no step has a part
+none-at-0 : (lower : ℤ) (ss : List Step) → pos 0 ≤ℤ lower → ((k : ℕ) → k < length ss → pos 0 ≤ℤ upperAt ss k) → costAbove (pos 0) lower ss ≡ pos 0
+none-at-0 lower [] l h = refl
+none-at-0 lower (s ∷ ss) l h =
+    let u = h zero (omega arith) in
+    let w : minZ (pos 0) (s .upper) -ℤ minZ (pos 0) lower ≡ pos 0 = omega (arith, ints, clamps) in
+    let rest = none-at-0 (s .upper) ss u (λ k i. h (suc k) (omega arith)) in
+    rw (w, rest) (ap (λ z. z +ℤ pos 0) (zero-*ℤ (s .price)))
+
 -- steps above an output add nothing
 none-above : (q lower : ℤ) (ss : List Step) → rises lower ss ≡ true → q ≤ℤ lower → costAbove q lower ss ≡ pos 0
 none-above q lower [] h l = refl
@@ -97,7 +106,7 @@ begin-is ss (suc k) = refl
 pub cost-laws : CostLaws
 cost-laws = record {
   parts = λ ss h q k l. (let r = h k l in part-grows q (lowerAt ss k) (upperAt ss k) (omega (arith, ints)));
-  nothing = λ ss h. none-above (pos 0) (pos 0) ss (rising-decided ss .1 h) (omega (arith, ints));
+  nothing = λ ss h. none-at-0 (pos 0) ss (omega (arith, ints)) h;
   level = λ ss p h same q low high. (
       let e : minZ q (lastUpper (pos 0) ss) -ℤ minZ q (pos 0) ≡ q = omega (arith, ints, clamps) in
       level-above q (pos 0) p ss (rising-decided ss .1 h) same ∙ ap (λ z. z *ℤ p) e);

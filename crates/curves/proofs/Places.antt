@@ -15,6 +15,7 @@ use Rattle.std.proofs.shelf.Tests.{and-parts, and-from, and-left, and-right, or
 use Rattle.curves.specs.declared.steps.Step.{Step}
 use Rattle.curves.specs.CurveLaws.{CurveLaws}
 use Rattle.std.proofs.shelf.Lists.{length-map, getD-map}
+use Rattle.std.proofs.shelf.Signed.{ints}
 use Rattle.curves.specs.Curve.{noStep, cappedStep, upperAt, priceAt, lowerAt, priceBefore, Rising, Climbing, Above, rises, climbs, above, lastUpper}
 use Rattle.curves.proofs.Decisions.{leZ-from, leZ-to, leZ-not, ltZ-from, ltZ-to, ltZ-not, ltZ-not-to}
 
@@ -72,6 +73,13 @@ climbing-decided floor ss = (
   (λ h. climbs-goes floor ss ∙ goes-from (λ s. s .price) leZ floor ss (λ k l. rw (price-is floor ss k) (leZ-from _ _ (h k l)))),
 )
 
+none-below : (floor : ℤ) (ss : List Step) → Climbing floor ss → (k : ℕ) → k < length ss → floor ≤ℤ priceAt ss k
+none-below floor ss h zero l = h zero l
+none-below floor ss h (suc k) l =
+    let a = none-below floor ss h k (omega arith) in
+    let b = h (suc k) l in
+    omega (arith, ints)
+
 pub above-decided : (e : ℤ) (ss : List Step) → Decides (above e ss) (Above e ss)
 above-decided e ss = (some e ss, λ a. at e ss (a .0) (a .1) (a .2))
   where
@@ -115,6 +123,7 @@ pub curve-laws : CurveLaws
 curve-laws = record {
   rising = rising-decided;
   climbing = climbing-decided;
+  floor = none-below;
   above = above-decided;
   last = last-at (pos 0);
   capped-count = λ e ss. length-map ss (cappedStep e);

@@ -17,6 +17,7 @@ pub record PartFits (s : Step) (lower q : ℤ) : Type 0 where
   pub price-low : negℤ (pos 10000000) ≤ℤ s .price
   pub price-high : s .price ≤ℤ pos 10000000
 
+-- 16 steps are more than may be filed; the bound is for the sum
 pub record CostFits (ss : List Step) (q : ℤ) : Type 0 where
   pub from-0 : pos 0 ≤ℤ q
   pub to-most : q ≤ℤ pos 2000000

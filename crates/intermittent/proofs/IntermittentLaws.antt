@@ -15,7 +15,7 @@ use Rattle.std.proofs.shelf.Signed.{ints, clamps}
 use Rattle.std.proofs.shelf.Tests.{and-parts, and-from, and-left, and-right, or-from, or-parts, cond-true, cond-false, cases-bool}
 use Rattle.intermittent.specs.declared.Intermittent.{Intermittent}
 use Rattle.curves.specs.Curve.{above, costAt}
-use Rattle.intermittent.specs.Intermittents.{Admissible, goodForecast, goodPrice, admits, possible, lowered, stepsOf, meaning}
+use Rattle.intermittent.specs.Intermittents.{Admissible, goodForecast, goodPrice, admits, possible, lowered, stepsOf, meaning, Rules}
 use Rattle.curves.proofs.Curves.{no-dearer, above-capped, lesser-own}
 use Rattle.curves.proofs.Decisions.{leZ-from, leZ-to, ltZ-not, outside-0}
 use Rattle.offers.proofs.WidestAllowed.{widest-allowed}
@@ -103,7 +103,9 @@ lawful = record {
   own = own;
   no-dearer = λ b t c h q. rw (lowers b t c h) (less b t c h q);
   start-no-dearer = λ b t c h. ≤ℤ-refl (pos 0);
-  widest = widest;
   idle = λ b h. idles b (h widestTerms widest-allowed);
   outside = λ b q h. outside-0 (possible b) q (b .forecast) _ h;
 }
+
+pub rules : Rules
+rules = record { decides = decided; widest = widest; allowed = widest-allowed }

@@ -1,13 +1,16 @@
 -- The offer of an intermittent unit: one step up to its forecast, and a start price of 0.
-use mathlib.Core.Bool.{Bool, cond, _&&_, _||_}
+use mathlib.Core.Path.{_≡_}
+use mathlib.Core.Bool.{Bool, true, cond, _&&_, _||_}
 use mathlib.Core.List.{List, [], _∷_}
 use lib.IntN.{ℤ, pos}
 use lib.Signed.{ltZ, leZ, _≤ℤ_}
 use Rattle.offers.specs.declared.ceilings.Ceilings.{Ceilings}
 use Rattle.offers.specs.declared.terms.Terms.{Terms}
+use Rattle.offers.specs.Laws.{Allowed}
 use Rattle.offers.specs.Meaning.{Meaning}
 use Rattle.offers.specs.Widest.{widestTerms}
 use Rattle.std.specs.Numbers.{minZ}
+use Rattle.std.specs.Orderings.{Decides}
 use Rattle.intermittent.specs.declared.Intermittent.{Intermittent}
 use Rattle.curves.specs.declared.steps.Step.{Step}
 use Rattle.curves.specs.Curve.{costAt, above}
@@ -50,3 +53,10 @@ meaning = record {
   exceeds = λ b c. possible b && (above (c .energy) (stepsOf b) || ltZ (c .start) (pos 0));
   capped = λ b c. cond (possible b) (lowered b (c .energy)) b;
 }
+
+pub record Rules : Type 0 where
+  -- the test of admission says whether the rules are kept
+  pub decides : (b : Intermittent) (t : Terms) → Decides (admits b t) (Admissible b t)
+  -- a body that some book admits is admitted on the widest terms, and these are a book's
+  pub widest : (b : Intermittent) (t : Terms) → Allowed t → admits b t ≡ true → admits b widestTerms ≡ true
+  pub allowed : Allowed widestTerms

@@ -1,6 +1,6 @@
 // Offers of intermittent units.
 ghost use mathlib.Core.Path.{_≡_};
-ghost use Rattle.intermittent.specs.Intermittents.{meaning as offered, possible, goodForecast, goodPrice, Admissible};
+ghost use Rattle.intermittent.specs.Intermittents.{meaning as offered, possible, goodForecast, goodPrice, Admissible, Rules};
 ghost use Rattle.std.specs.Orderings.{Decides};
 use offers::ceilings::Ceilings;
 use offers::kind::Kind;
@@ -19,7 +19,8 @@ pub struct Intermittent {
 impl Intermittent {
     // Whether the body keeps every rule of admission.
     pub fn keeps_rules(&self, terms: Terms) -> bool
-        ensures { λ r. ⌜ Decides r (Admissible (now (self .entry)) terms) ⌝ }
+        ensures kept { λ r. ⌜ Decides r (Admissible (now (self .entry)) terms) ⌝ }
+        ensures rules { λ _. ⌜ Rules ⌝ }
     {
         self.admissible(terms)
     }

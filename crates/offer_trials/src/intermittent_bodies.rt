@@ -73,7 +73,39 @@ fn no_book_admits() -> Result<(), Fail> {
         price: 10_000_001,
     };
     check_eq(dear.top(), 0)?;
-    check(!dear.exceeds(ceilings))
+    check(!dear.exceeds(ceilings))?;
+    let low = Intermittent {
+        forecast: 9,
+        price: -10_000_001,
+    };
+    check_eq(low.top(), 0)?;
+    check_eq(low.cost(9), 0)?;
+    let negative = Intermittent {
+        forecast: -1,
+        price: 90,
+    };
+    check_eq(negative.top(), 0)?;
+    check(!negative.exceeds(ceilings))?;
+    check_eq(negative.capped(ceilings).price, 90)
+}
+
+#[test]
+fn rules_kept() -> Result<(), Fail> {
+    let terms = Terms {
+        maximum: 9,
+        floor: 5,
+        cap: 7,
+    };
+    let body = Intermittent {
+        forecast: 9,
+        price: 7,
+    };
+    check(body.keeps_rules(terms))?;
+    let dear = Intermittent {
+        forecast: 9,
+        price: 8,
+    };
+    check(!dear.keeps_rules(terms))
 }
 
 fn held_to(energy: i64, start: i64) -> Ceilings {

@@ -32,10 +32,38 @@ fn real_time() -> Result<(), Fail> {
 
 // What a cut gate at a minute, if there is one, says of another.
 fn cut(at: i64, minute: i64) -> Option<bool> {
+    cut_for(at, minute, 1)
+}
+
+fn cut_for(at: i64, minute: i64, hour: i64) -> Option<bool> {
     match CutGate::at(at) {
-        Ok(gate) => Some(gate.admits(minute, 1)),
+        Ok(gate) => Some(gate.admits(minute, hour)),
         Err(_) => None,
     }
+}
+
+// The number with which a cut gate is refused, if it is.
+fn refused(at: i64) -> Option<u32> {
+    match CutGate::at(at) {
+        Ok(_) => None,
+        Err(refusal) => Some(refusal.number()),
+    }
+}
+
+#[test]
+fn refused_cuts() -> Result<(), Fail> {
+    check_eq(refused(-10_081), Some(12))?;
+    check_eq(refused(-10_080), None)?;
+    check_eq(refused(1_440), None)?;
+    check_eq(refused(1_441), Some(12))
+}
+
+#[test]
+fn hours_of_a_cut() -> Result<(), Fail> {
+    check_eq(cut_for(-840, -841, 24), Some(true))?;
+    check_eq(cut_for(-840, -840, 24), Some(false))?;
+    check_eq(cut_for(-840, -841, i64::MIN), Some(true))?;
+    check_eq(cut_for(-840, -840, i64::MAX), Some(false))
 }
 
 #[test]

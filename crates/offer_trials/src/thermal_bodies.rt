@@ -188,5 +188,91 @@ fn no_book_admits() -> Result<(), Fail> {
     check_eq(body.cost(100), 0)?;
     check_eq(body.start_price(), 0)?;
     check(!body.exceeds(ceilings))?;
-    check_eq(body.capped(ceilings).start_price, 5)
+    check_eq(body.capped(ceilings).start_price, 5)?;
+    check(body.capped(ceilings).steps.is_above(69))
+}
+
+fn is_idle(body: Thermal) -> bool {
+    let ceilings = held_to(-10_000_000, 0);
+    body.top() == 0 && body.cost(100) == 0 && body.start_price() == 0 && !body.exceeds(ceilings)
+}
+
+#[test]
+fn limits_of_any_book() -> Result<(), Fail> {
+    let mut body = usual()?;
+    body.emergency_max = 2_000_000;
+    check(!is_idle(body))?;
+    body.emergency_max = 2_000_001;
+    check(is_idle(body))?;
+    body.emergency_max = 300;
+    body.start_price = 1_000_000_000;
+    check(!is_idle(body))?;
+    body.start_price = 1_000_000_001;
+    check(is_idle(body))?;
+    body.start_price = -1;
+    check(is_idle(body))?;
+    check(!is_idle(with_steps(&[step(250, 10_000_000)])?))?;
+    check(is_idle(with_steps(&[step(250, 10_000_001)])?))?;
+    check(!is_idle(with_steps(&[step(250, -10_000_000)])?))?;
+    check(is_idle(with_steps(&[step(250, -10_000_001)])?))?;
+    check(is_idle(with_steps(&[])?))
+}
+
+// The dearest and the cheapest hour that a book can have.
+#[test]
+fn extreme_costs() -> Result<(), Fail> {
+    let mut body = with_steps(&[step(2_000_000, 10_000_000)])?;
+    body.economic_max = 2_000_000;
+    body.emergency_max = 2_000_000;
+    check_eq(body.cost(2_000_000), 20_000_000_000_000)?;
+    check_eq(body.cost(i64::MIN), 0)?;
+    check_eq(body.cost(i64::MAX), 0)?;
+    let low = body.capped(held_to(-10_000_000, 0));
+    check_eq(low.cost(2_000_000), -20_000_000_000_000)?;
+    body.economic_max = i64::MAX;
+    check(is_idle(body))
+}
+
+// A body of eight steps, the last at this upper kW and price.
+fn with_eighth(upper: i64, price: i64) -> Result<Thermal, Fail> {
+    with_steps(
+        &[
+            step(10, 1),
+            step(20, 2),
+            step(30, 3),
+            step(40, 4),
+            step(50, 5),
+            step(60, 6),
+            step(70, 7),
+            step(upper, price),
+        ],
+    )
+}
+
+#[test]
+fn eighth_step() -> Result<(), Fail> {
+    check(admitted(with_eighth(250, 100)?))?;
+    check(!admitted(with_eighth(250, 101)?))?;
+    check(!admitted(with_eighth(250, 6)?))?;
+    check(!admitted(with_eighth(70, 100)?))?;
+    let body = with_eighth(250, 100)?;
+    check(body.exceeds(held_to(99, 5)))?;
+    check(!body.exceeds(held_to(100, 5)))?;
+    check_eq(body.cost(250), 18_280)?;
+    let capped = body.capped(held_to(7, 5));
+    check_eq(capped.cost(250), 1_540)?;
+    check(!capped.exceeds(held_to(7, 5)))
+}
+
+#[test]
+fn rules_kept() -> Result<(), Fail> {
+    let terms = Terms {
+        maximum: 300,
+        floor: 50,
+        cap: 70,
+    };
+    check(usual()?.keeps_rules(terms))?;
+    let mut body = usual()?;
+    body.emergency_max = 301;
+    check(!body.keeps_rules(terms))
 }

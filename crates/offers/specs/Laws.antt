@@ -50,8 +50,6 @@ module _ {B : Type 0} (K : Meaning B) where
     -- capping makes no output dearer, nor a start
     pub no-dearer : (b : B) (t : Terms) (c : Ceilings) → Filed b t c → (q : ℤ) → K .cost (K .capped b c) q ≤ℤ K .cost b q
     pub start-no-dearer : (b : B) (t : Terms) (c : Ceilings) → Filed b t c → K .start (K .capped b c) ≤ℤ K .start b
-    -- what some book admits is admitted on the widest terms
-    pub widest : (b : B) (t : Terms) → Allowed t → K .admits b t ≡ true → K .admits b widestTerms ≡ true
     -- what no book admits is idle
     pub idle : (b : B) → ((t : Terms) → Allowed t → K .admits b t ≡ false) → Idle b
     -- outside 0 to top the cost is 0

@@ -25,7 +25,7 @@ use Rattle.curves.specs.declared.steps.Steps.{Steps}
 use Rattle.thermal.specs.declared.Thermal.{Thermal}
 use Rattle.curves.specs.Curve.{upperAt, stepsIn, lowered, above, climbs, costAt, rises, lastUpper}
 use Rattle.curves.specs.Priced.{stepCost}
-use Rattle.thermal.specs.Thermals.{Status, Economic, Emergency, Start, StepRules, Admissible, goodStatus, goodEconomic, goodEmergency, goodLimits, goodStart, goodSteps, equalZ, admits, possible, cheapened, meaning}
+use Rattle.thermal.specs.Thermals.{Status, Economic, Emergency, Start, StepRules, Admissible, goodStatus, goodEconomic, goodEmergency, goodLimits, goodStart, goodSteps, equalZ, admits, possible, cappedBody, meaning, Rules}
 use Rattle.curves.proofs.Curves.{no-dearer, above-capped, above-lower, above-wider, lesser-own, rises-grows, rises-capped, last-capped, climbs-capped, climbs-wider, steps-lowered, lowered-own}
 use Rattle.curves.proofs.Decisions.{leZ-from, leZ-to, ltZ-not, outside-0}
 use Rattle.curves.proofs.Priced.{not-true, not-false, cost-told}
@@ -173,17 +173,17 @@ module _ (b : Thermal) (t : Terms) (c : Ceilings) (h : Filed meaning b t c) wher
   can : possible b ≡ true
   can = widest b t (h .allowed) (h .admitted)
 
-  lowers : meaning .capped b c ≡ cheapened b c
+  lowers : meaning .capped b c ≡ cappedBody b c
   lowers = cond-true _ _ _ can
 
-  stays : admits (cheapened b c) t ≡ true
+  stays : admits (cappedBody b c) t ≡ true
   stays =
       let a = parts b t (h .admitted) in
       let start = a .start in
       let k = h .bring in
       let ss = stepsIn (b .steps) in
       let w = steps-lowered (b .steps) (c .energy) in
-      whole (cheapened b c) t (record {
+      whole (cappedBody b c) t (record {
         status = record { low = a .status .low; high = a .status .high };
         economic = record { low = a .economic .low; ordered = a .economic .ordered };
         emergency = record { low = a .emergency .low; minimums = a .emergency .minimums; maximums = a .emergency .maximums; registered = a .emergency .registered };
@@ -196,18 +196,18 @@ module _ (b : Thermal) (t : Terms) (c : Ceilings) (h : Filed meaning b t c) wher
         below = ap (above (t .cap)) w ∙ above-lower (c .energy) (t .cap) ss (a .below);
       })
 
-  still : possible (cheapened b c) ≡ true
-  still = widest (cheapened b c) t (h .allowed) stays
+  still : possible (cappedBody b c) ≡ true
+  still = widest (cappedBody b c) t (h .allowed) stays
 
-  top-same : meaning .top (cheapened b c) ≡ meaning .top b
+  top-same : meaning .top (cappedBody b c) ≡ meaning .top b
   top-same = cond-true _ _ _ still ∙ sym (cond-true _ _ _ can)
 
-  none : meaning .exceeds (cheapened b c) c ≡ false
+  none : meaning .exceeds (cappedBody b c) c ≡ false
   none =
       let p : minZ (b .«start_price») (c .start) ≤ℤ c .start = omega (arith, ints, clamps) in
       and-right _ _ (or-from _ _ (ap (above (c .energy)) (steps-lowered (b .steps) (c .energy)) ∙ above-capped (c .energy) (stepsIn (b .steps))) (ltZ-not _ _ p))
 
-  less : (q : ℤ) → meaning .cost (cheapened b c) q ≤ℤ meaning .cost b q
+  less : (q : ℤ) → meaning .cost (cappedBody b c) q ≤ℤ meaning .cost b q
   less q =
       let a = parts b t (h .admitted) in
       let ss = stepsIn (b .steps) in
@@ -215,7 +215,7 @@ module _ (b : Thermal) (t : Terms) (c : Ceilings) (h : Filed meaning b t c) wher
       let x : costAt q (stepsIn (lowered (b .steps) (c .energy))) ≤ℤ costAt q ss = rw (steps-lowered (b .steps) (c .energy)) (no-dearer q (pos 0) (c .energy) ss (rises-grows (pos 0) ss (a .rising))) in
       rw (still, can) (elim r as (λ v. cond v (costAt q (stepsIn (lowered (b .steps) (c .energy)))) (pos 0) ≤ℤ cond v (costAt q ss) (pos 0)) [ true ↦ x | false ↦ ≤ℤ-refl (pos 0) ])
 
-  start-less : meaning .start (cheapened b c) ≤ℤ meaning .start b
+  start-less : meaning .start (cappedBody b c) ≤ℤ meaning .start b
   start-less = rw (still, can) (omega (arith, ints, clamps))
 
 -- where no price is above its ceiling, capping changes nothing
@@ -248,7 +248,9 @@ lawful = record {
   own = own;
   no-dearer = λ b t c h q. rw (lowers b t c h) (less b t c h q);
   start-no-dearer = λ b t c h. rw (lowers b t c h) (start-less b t c h);
-  widest = widest;
   idle = λ b h. idles b (h widestTerms widest-allowed);
   outside = λ b q h. outside-0 (possible b) q (b .«economic_max») _ h;
 }
+
+pub rules : Rules
+rules = record { decides = decided; widest = widest; allowed = widest-allowed }

@@ -1,6 +1,6 @@
 -- The offer of a thermal unit.
 use mathlib.Core.Path.{_≡_}
-use mathlib.Core.Bool.{Bool, not, cond, _&&_, _||_}
+use mathlib.Core.Bool.{Bool, true, not, cond, _&&_, _||_}
 use Prim.Native.Nat.{ℕ, _-_, _≤_}
 use lib.Dec.{leb}
 use lib.IntN.{ℤ, pos}
@@ -8,9 +8,11 @@ use lib.ListN.{length}
 use lib.Signed.{ltZ, leZ, _≤ℤ_}
 use Rattle.offers.specs.declared.ceilings.Ceilings.{Ceilings}
 use Rattle.offers.specs.declared.terms.Terms.{Terms}
+use Rattle.offers.specs.Laws.{Allowed}
 use Rattle.offers.specs.Meaning.{Meaning}
 use Rattle.offers.specs.Widest.{widestTerms}
 use Rattle.std.specs.Numbers.{minZ}
+use Rattle.std.specs.Orderings.{Decides}
 use Rattle.thermal.specs.declared.Thermal.{Thermal}
 use Rattle.curves.specs.Curve.{Rising, Climbing, Above, upperAt, stepsIn, lowered, rises, climbs, above, lastUpper, costAt}
 
@@ -85,8 +87,8 @@ abbrev pub possible : Thermal → Bool
 possible b = admits b widestTerms
 
 -- each price the lesser of itself and its ceiling
-abbrev pub cheapened : Thermal → Ceilings → Thermal
-cheapened b c = record {
+abbrev pub cappedBody : Thermal → Ceilings → Thermal
+cappedBody b c = record {
   status = b .status;
   «emergency_min» = b .«emergency_min»;
   «economic_min» = b .«economic_min»;
@@ -104,5 +106,12 @@ meaning = record {
   cost = λ b q. cond (possible b && (leZ (pos 0) q && leZ q (b .«economic_max»))) (costAt q (stepsIn (b .steps))) (pos 0);
   start = λ b. cond (possible b) (b .«start_price») (pos 0);
   exceeds = λ b c. possible b && (above (c .energy) (stepsIn (b .steps)) || ltZ (c .start) (b .«start_price»));
-  capped = λ b c. cond (possible b) (cheapened b c) b;
+  capped = λ b c. cond (possible b) (cappedBody b c) b;
 }
+
+pub record Rules : Type 0 where
+  -- the test of admission says whether the rules are kept
+  pub decides : (b : Thermal) (t : Terms) → Decides (admits b t) (Admissible b t)
+  -- a body that some book admits is admitted on the widest terms, and these are a book's
+  pub widest : (b : Thermal) (t : Terms) → Allowed t → admits b t ≡ true → admits b widestTerms ≡ true
+  pub allowed : Allowed widestTerms

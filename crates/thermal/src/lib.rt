@@ -1,6 +1,6 @@
 // Offers of thermal units.
 ghost use mathlib.Core.Path.{_≡_};
-ghost use Rattle.thermal.specs.Thermals.{meaning as offered, possible, goodStatus, goodLimits, goodEconomic, goodEmergency, goodStart, goodSteps, Admissible};
+ghost use Rattle.thermal.specs.Thermals.{meaning as offered, possible, goodStatus, goodLimits, goodEconomic, goodEmergency, goodStart, goodSteps, Admissible, Rules};
 ghost use Rattle.std.specs.Orderings.{Decides};
 use curves::steps::PLACES;
 use curves::steps::Steps;
@@ -24,7 +24,8 @@ pub struct Thermal {
 impl Thermal {
     // Whether the body keeps every rule of admission.
     pub fn keeps_rules(&self, terms: Terms) -> bool
-        ensures { λ r. ⌜ Decides r (Admissible (now (self .entry)) terms) ⌝ }
+        ensures kept { λ r. ⌜ Decides r (Admissible (now (self .entry)) terms) ⌝ }
+        ensures rules { λ _. ⌜ Rules ⌝ }
     {
         self.admissible(terms)
     }
