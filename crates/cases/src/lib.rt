@@ -1,4 +1,6 @@
 // Worked cases, and laws of the cost: what the definitions give, so that a reader can check them.
+#![tactic(auto)]
+
 ghost use Rattle.cases.specs.Worked.{WorkedCases};
 ghost use Rattle.curves.specs.Costs.{CostLaws};
 ghost use Rattle.curves.specs.CurveLaws.{CurveLaws};

@@ -1,4 +1,6 @@
 // Reads a day file from standard input, and prints a line for each of its rows.
+#![tactic(auto)]
+
 use report::file::{bytes_to_read, report};
 use std::io;
 use std::io::Read;

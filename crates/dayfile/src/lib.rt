@@ -1,4 +1,6 @@
 // Day files: the order of their columns, what each of their rows asks, and their faults.
+#![tactic(auto)]
+
 pub mod call;
 pub mod column;
 pub mod entry;

@@ -1,4 +1,6 @@
 // Hours, minutes, and the gates that admit an offer for an hour.
+#![tactic(auto)]
+
 pub mod cut;
 pub mod gate;
 pub mod hour;

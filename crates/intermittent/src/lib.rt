@@ -1,4 +1,6 @@
 // Offers of intermittent units.
+#![tactic(auto)]
+
 ghost use Rattle.std.specs.Prelude.{◌≡◌, Decides};
 ghost use Rattle.intermittent.specs.Intermittents.{meaning as offered, possible, good_forecast, good_price, Admissible, Rules};
 ghost use Rattle.intermittent.specs.IntermittentLaws;

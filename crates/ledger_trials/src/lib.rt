@@ -1,4 +1,6 @@
 // The two ledgers side by side, and the slots that were lent to them.
+#![tactic(auto)]
+
 #[cfg(test)]
 mod scripts;
 #[cfg(test)]

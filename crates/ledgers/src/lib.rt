@@ -1,4 +1,6 @@
 // What every ledger of filings shows to the book, and what the ledgers share.
+#![tactic(auto)]
+
 pub mod filing;
 pub mod ledger;
 pub mod lists;

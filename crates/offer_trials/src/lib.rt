@@ -1,4 +1,6 @@
 // Bodies and minutes at each limit, and one past it.
+#![tactic(auto)]
+
 #[cfg(test)]
 mod intermittent_bodies;
 #[cfg(test)]

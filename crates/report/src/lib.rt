@@ -1,3 +1,5 @@
 // What the program prints for a day file.
+#![tactic(auto)]
+
 pub mod file;
 pub mod reply;

@@ -1,4 +1,6 @@
 // Offers of thermal units.
+#![tactic(auto)]
+
 ghost use Rattle.std.specs.Prelude.{◌≡◌, Decides};
 ghost use Rattle.thermal.specs.Thermals.{meaning as offered, possible, good_status, good_limits, good_economic, good_emergency, good_start, good_steps, Admissible, Rules};
 ghost use Rattle.thermal.specs.ThermalLaws;

@@ -1,4 +1,6 @@
 // Odd day files, and what is printed for each.
+#![tactic(auto)]
+
 #[cfg(test)]
 mod tests {
     use cells::line::CutLine;
