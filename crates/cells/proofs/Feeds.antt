@@ -1,9 +1,9 @@
 -- The lines of a file, one after the other.
-use Rattle.std.proofs.Common.{◌≡◌, ℕ, ◌+◌, ◌-◌, ◌<◌, ◌≤◌, true, false, cond, eqb, List, [], ◌∷◌, length, get_or, take, drop, sym, refl, ap, ◌∙◌, inl, inr, arith}
+use Rattle.std.proofs.Common.{◌≡◌, ℕ, ◌+◌, ◌<◌, true, false, cond, eqb, List, [], ◌∷◌, length, get_or, take, drop, sym, refl, ap, ◌∙◌, inl, inr, arith}
 use Rattle.std.proofs.lemmas.List.{drop_all, drop-take}
 use Rattle.std.proofs.lemmas.Bool.{cases_lt}
 use Rattle.cells.specs.Parts.{up_to, lines}
-use Rattle.cells.proofs.Cuts.{up_to_le, after_is, parts_more, parts_last}
+use Rattle.cells.proofs.Cuts.{after_is, parts_more, parts_last}
 
 -- what stands before the first mark stands in front
 pub up_to_front : (mark : ℕ) (bs : List ℕ) → up_to mark bs ≡ take (length (up_to mark bs)) bs

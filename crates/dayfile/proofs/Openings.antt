@@ -1,7 +1,7 @@
 -- What is left to read of a file, before and after each of its lines.
 use Rattle.std.proofs.Common.{◌≡◌, ℕ, ◌+◌, ◌<◌, ◌≤◌, List, [], ◌∷◌, length, take, drop, Ok, Err, Result, sym, refl, ap, ◌∙◌, subst, arith}
-use Rattle.cells.specs.Parts.{up_to, lines, cells}
-use Rattle.cells.proofs.Feeds.{line_part, lines_more, lines_first}
+use Rattle.cells.specs.Parts.{up_to, lines}
+use Rattle.cells.proofs.Feeds.{line_part, lines_more}
 use Rattle.std.proofs.lemmas.List.{drop_all, drop-drop, length-drop}
 use Rattle.dayfile.specs.declared.column.Column.{Column}
 use Rattle.dayfile.specs.declared.fault.Fault.{Fault}

@@ -1,7 +1,6 @@
 -- Rows and their cells: the steps of the code come to what Rows says.
-use Rattle.std.proofs.Common.{◌≡◌, ℕ, ◌<◌, Bool, true, false, cond, List, [], ◌∷◌, length, get_or, ℤ, pos, is_some, Some, None, codes, Option, unwrap_or, sym, refl, ap, ◌∙◌, subst, arith}
+use Rattle.std.proofs.Common.{◌≡◌, ℕ, true, List, [], ◌∷◌, ℤ, pos, is_some, Some, None, codes, Option, unwrap_or, sym, refl, ap, ◌∙◌, arith}
 use Rattle.cells.specs.Numbers.{number_of}
-use Rattle.cells.specs.Parts.{cells}
 use Rattle.std.specs.Str.{bytes_eq}
 use Rattle.std.proofs.lemmas.Slice.Eq.{bytes_eq-Decides}
 use Rattle.std.proofs.lemmas.Bool.Decides.{nat_tests}

@@ -1,5 +1,5 @@
 -- What the line of names says: the order of the columns, or the first cell that is no new name.
-use Rattle.std.specs.Prelude.{◌≡◌, ℕ, ◌+◌, ◌<◌, List, [], map, length, get_or, take, Ok, Err, Result, ◌≢◌, slice_index_or}
+use Rattle.std.specs.Prelude.{◌≡◌, ℕ, ◌+◌, ◌<◌, List, [], map, length, take, Ok, Err, Result, ◌≢◌, slice_index_or}
 use Rattle.cells.specs.Parts.{cells}
 use Rattle.dayfile.specs.declared.column.Column.{Column}
 use Rattle.dayfile.specs.declared.column.Column.TheVariants.{Call}
@@ -18,7 +18,7 @@ Distinct cs = (j k : ℕ) → j < k → k < length cs → slice_index_or cs j Ca
 -- the cell after those of the columns seen is a new name, that of c
 pub record New (line : List ℕ) (seen : List Column) (c : Column) : Type 0 where
   pub there : length seen < length (cells line)
-  pub named : get_or (cells line) (length seen) [] ≡ name_of c
+  pub named : slice_index_or (cells line) (length seen) [] ≡ name_of c
   pub fresh : Among c seen → ⊥
 
 -- the line begins with the names of the columns seen, each once

@@ -1,5 +1,5 @@
 -- What a line of values asks, or what is wrong with it.
-use Rattle.std.specs.Prelude.{◌≡◌, ℕ, ◌+◌, ◌<◌, ◌⊎◌, List, [], length, get_or, ℤ, Some, Ok, Err, codes, Result, ◌≢◌, slice_index_or}
+use Rattle.std.specs.Prelude.{◌≡◌, ℕ, ◌+◌, ◌<◌, ◌⊎◌, List, [], length, ℤ, Some, Ok, Err, codes, Result, ◌≢◌, slice_index_or}
 use Rattle.cells.specs.Numbers.{number_of}
 use Rattle.cells.specs.Parts.{cells}
 use Rattle.dayfile.specs.declared.call.RoundKind.{RoundKind}
@@ -58,7 +58,7 @@ pub record Asks (cs : List Column) (line : List ℕ) (row : Row) : Type 0 where
 pub record CallAt (cs : List Column) (line : List ℕ) (k : ℕ) : Type 0 where
   pub count : length (cells line) ≡ length cs
   pub there : k < length cs
-  pub call : get_or cs k Call ≡ Call
+  pub call : slice_index_or cs k Call ≡ Call
 
 -- the call cell is bad: no row has it
 pub record BadCall (cs : List Column) (line : List ℕ) (k : ℕ) : Type 0 where

@@ -1,6 +1,6 @@
 ghost use Rattle.std.specs.Prelude.{◌≡◌};
 ghost use Rattle.dayfile.specs.Calls.{call_of, letter_call};
-ghost use Rattle.dayfile.specs.Steps.{uses as usesColumn};
+ghost use Rattle.dayfile.specs.Steps.{uses as uses_column};
 
 use crate::column::Column;
 
@@ -50,7 +50,7 @@ fn letter_call(letter: u8) -> Option<Call>
 
 // Whether a row of this call has a number in this column.
 pub(crate) fn uses(call: Call, column: Column) -> bool
-    ensures { result ≡ usesColumn call column }
+    ensures { result ≡ uses_column call column }
 {
     match call {
         Call::Register => matches!(column, Column::Unit | Column::Kw | Column::Price),

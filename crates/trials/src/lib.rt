@@ -7,19 +7,21 @@ mod tests {
     use dayfile::reader::UnreadFile;
     use dayfile::row::Row;
     use report::file::report;
-    use std::test::*;
+    use std::alloc::AllocGlobal;
+    use std::process::Abort;
+    use std::test::Fail;
 
     // Behind the header, a file prints just these lines.
-    fn file_prints(rt: &HostRuntime, file: &[u8], lines: &str) -> Result<(), Fail> {
+    fn file_prints(rt: &(impl Abort + AllocGlobal), file: &[u8], lines: &str) -> Result<(), Fail> {
         let heap = rt.alloc();
         let printed = report(heap, file)?;
         let expected = format!(in heap; "line,answer,p,q,r,s\n{lines}")?;
-        assert_eq!(printed.as_str(), expected.as_str());
+        assert_eq!(rt; printed.as_str(), expected.as_str());
         Ok(())
     }
 
     // The same of a file with the names in their usual order, and these bytes behind them.
-    fn rows_print(rt: &HostRuntime, rows: &[u8], lines: &str) -> Result<(), Fail> {
+    fn rows_print(rt: &(impl Abort + AllocGlobal), rows: &[u8], lines: &str) -> Result<(), Fail> {
         let mut file = b"call,unit,minute,from,to,kw,price\n".to_vec(rt.alloc())?;
         file.extend_from_slice(rows)?;
         file_prints(rt, file.as_slice(), lines)
@@ -222,12 +224,12 @@ mod tests {
     }
 
     // A file of just this many bytes: the names and one long cell.
-    fn file_of(rt: &HostRuntime, count: usize, lines: &str) -> Result<(), Fail> {
+    fn file_of(rt: &(impl Abort + AllocGlobal), count: usize, lines: &str) -> Result<(), Fail> {
         let mut file = b"call,unit,minute,from,to,kw,price\n".to_vec(rt.alloc())?;
         for _ in file.len()..count {
             file.push(b'x')?;
         }
-        assert_eq!(file.len(), count);
+        assert_eq!(rt; file.len(), count);
         file_prints(rt, file.as_slice(), lines)
     }
 
@@ -270,8 +272,7 @@ mod tests {
             b"price,kw,to,from,minute,unit,call\n6,5,4,3,-2,1,F\n",
         ).rows();
         let Some(entry) = rows.next_row() else {
-            assert!(rt; false);
-            return Ok(());
+            panic!(rt; "no row is read");
         };
         let Ok(
             Row::File {
@@ -284,8 +285,7 @@ mod tests {
             },
         ) = entry.row
         else {
-            assert!(rt; false);
-            return Ok(());
+            panic!(rt; "another row is read");
         };
         assert_eq!(rt; entry.line, 2);
         assert_eq!(rt; unit, 1);
@@ -303,11 +303,10 @@ mod tests {
         let cut = CutLine::<'_, 2>::cut(b"ab\nc,de,f", 3);
         assert_eq!(rt; cut.count(), 3);
         let Some(cell) = cut.cell(1) else {
-            assert!(rt; false);
-            return Ok(());
+            panic!(rt; "the line has no second cell");
         };
         assert_eq!(rt; cell.at, 5);
-        assert_eq!(rt; cell.bytes, b"de");
+        assert_eq!(rt; cell.bytes, b"de".as_slice());
         assert!(rt; cut.cell(2).is_none());
         Ok(())
     }

@@ -1,4 +1,4 @@
-use Rattle.std.proofs.Common.{◌≡◌, ℕ, ◌+◌, ◌-◌, ◌*◌, ◌^◌, ◌<◌, ◌≤◌, Bool, true, false, cond, ◌&&◌, leb, length, get_or, drop, Some, None, sym, refl, ap, ◌∙◌, pow-suc, add-one, arith, ltb-false, ltb-true, le-leb}
+use Rattle.std.proofs.Common.{◌≡◌, ℕ, ◌+◌, ◌*◌, ◌^◌, ◌<◌, ◌≤◌, true, ◌&&◌, length, get_or, drop, Some, sym, refl, ap, ◌∙◌, pow-suc, add-one, arith, ltb-false, ltb-true, le-leb}
 use native.Mathlib.Nat.{pow-le-pow_right}
 use borrow.Author.Tests.{lt-leb}
 use Rattle.std.proofs.lemmas.List.{at_drop_more, at_drop_all}
@@ -13,11 +13,11 @@ grows n i d h k = rw (add-one, pow-suc) (omega arith)
 small : (n i d : ℕ) → n < 10 ^ i → i < 9 → d < 10 → n * 10 + d < 2 ^ 32
 small n i d h k l = let a : 0 < 10 = omega arith in let b : i ≤ 8 = omega arith in let p : 10 ^ i ≤ 10 ^ 8 = pow-le-pow_right a b in omega arith
 
-pub overflow-mul-n : goal.overflow-mul-n
-overflow-mul-n c = let p = small c.loop-d.n c.loop-d.d-index 0 c.loop-d.invariant.2 (omega arith) (omega arith) in omega arith
+pub overflow_mul-n : goal.overflow_mul-n
+overflow_mul-n c = let p = small c.loop-d.n c.loop-d.d-index 0 c.loop-d.invariant.2 (omega arith) (omega arith) in omega arith
 
-pub overflow-add-n : goal.overflow-add-n
-overflow-add-n c = let p = small c.loop-d.n c.loop-d.d-index c.from.result c.loop-d.invariant.2 (omega arith) (omega (arith, ltb-true, ltb-false)) in omega arith
+pub overflow_add-n : goal.overflow_add-n
+overflow_add-n c = let p = small c.loop-d.n c.loop-d.d-index c.from.result c.loop-d.invariant.2 (omega arith) (omega (arith, ltb-true, ltb-false)) in omega arith
 
 pub loop-d-preserved : goal.loop-d-preserved
 loop-d-preserved c =
@@ -45,16 +45,16 @@ returns c =
     let w : is_numeral ds ≡ true = and_from _ _ (and_from _ _ (le-leb 1 (length ds) c.loop-d.invariant.3) (le-leb (length ds) 9 c.loop-d.invariant.4)) a in
     sym (cond-true _ _ _ w ∙ ap Some v)
 
-pub returns-in-default : goal.returns-in-default
-returns-in-default c =
+pub returns-in_default : goal.returns-in_default
+returns-in_default c =
     let ds = c.args.digits.now in
     let i = c.loop-d.d-index in
     let d = get_or ds i 0 in
     let out : d < 48 = omega (arith, ltb-true, ltb-false) in
     sym (cond-false _ _ _ (and_right _ _ (c.loop-d.invariant.1 ∙ at_drop_more all_digits ds i 0 c.loop-d-test.true ∙ and_left _ _ (and_left _ _ (lt-leb 48 d out)))))
 
-pub returns-in-default·2 : goal.returns-in-default·2
-returns-in-default·2 c =
+pub returns-in_default-2 : goal.returns-in_default-2
+returns-in_default-2 c =
     let ds = c.args.digits.now in
     let i = c.loop-d.d-index in
     let d = get_or ds i 0 in

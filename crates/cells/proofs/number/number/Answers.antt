@@ -9,7 +9,7 @@ returns-in-Some c =
     let bs = c.args.cell.now in
     let some : 0 < length bs = omega (arith, ltb-true, ltb-false) in
     let minus : get_or bs 0 0 ≡ 45 = search rules in
-    let f : SFits w64 c.minus.result = record { sfits = c.minus.type-inv } in
+    let f : SFits w64 c.minus.result = record { sfits = c.minus.type_inv } in
     simp to_z-of_z (ap Some c.minus.ensures ∙ sym (number_minus bs some minus ∙ ap (option_map (λ n. neg_ℤ (pos n))) (sym c.in-Some.ensures)))
 
 pub returns-in-None : goal.returns-in-None

@@ -9,7 +9,7 @@ loop-entry-init c = none_printed _ _
 pub loop-entry-preserved : goal.loop-entry-preserved
 loop-entry-preserved c =
     one_printed _ _ _ _ c.loop-entry.invariant c.in-Some.entry _ _ c.in-Some.ensures.next
-    (c.in-ok-add.ensures ∙ ap (λ x. string_bytes c.loop-entry.out ++ reply_line x) c.entry-reply.ensures)
+    (c.in_ok-add.ensures ∙ ap (λ x. string_bytes c.loop-entry.out ++ reply_line x) c.entry_reply.ensures)
 
 pub returns : goal.returns
-returns c = all_printed _ _ _ _ c.loop-entry.invariant c.in-default.ensures.next.0
+returns c = all_printed _ _ _ _ c.loop-entry.invariant c.in_default.ensures.next.0

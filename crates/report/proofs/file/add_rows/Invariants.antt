@@ -1,4 +1,4 @@
-use Rattle.std.proofs.Common.{◌+◌, length, string_bytes}
+use Rattle.std.proofs.Common.{length, string_bytes}
 use Rattle.dayfile.specs.Files.{left}
 use Rattle.report.proofs.Printed.{Sofar}
 use Rattle.report.proofs.file.add_rows.Given as goal

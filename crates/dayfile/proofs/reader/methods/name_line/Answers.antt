@@ -3,4 +3,4 @@ use Rattle.cells.proofs.Feeds.{lines_first}
 use Rattle.dayfile.proofs.reader.methods.name_line.Goals as goal
 
 pub returns : goal.returns
-returns c = c.part-at.ensures.bytes ∙ sym (lines_first c.args.bytes.now)
+returns c = c.part_at.ensures.bytes ∙ sym (lines_first c.args.bytes.now)
