@@ -1,1 +1,2 @@
+pub mod LedgerNumbers
 pub mod Numbers
