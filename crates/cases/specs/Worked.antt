@@ -2,7 +2,6 @@
 use Rattle.std.specs.Prelude.{◌≡◌, true, false, ◌∷◌, ℤ, pos, neg_ℤ, replicate}
 use Rattle.gates.specs.Gates.{real_time, cut_at}
 use Rattle.curves.specs.declared.steps.Step.{Step}
-use Rattle.intermittent.specs.declared.Intermittent.{Intermittent}
 use Rattle.thermal.specs.declared.Thermal.{Thermal}
 use Rattle.intermittent.specs.Intermittents as intermittent
 use Rattle.thermal.specs.Thermals as thermal

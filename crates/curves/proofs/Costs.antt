@@ -1,5 +1,5 @@
 -- The cost of an output, in the words of the subject.
-use Rattle.std.proofs.Common.{◌≡◌, ℕ, zero, suc, ◌<◌, true, ◌&&◌, List, [], ◌∷◌, length, ℤ, pos, ◌+ℤ◌, ◌-ℤ◌, ◌*ℤ◌, ◌≤ℤ◌, ◌<ℤ◌, sym, refl, ap, ◌∙◌, arith}
+use Rattle.std.proofs.Common.{◌≡◌, ℕ, zero, suc, ◌<◌, true, List, [], ◌∷◌, length, ℤ, pos, ◌+ℤ◌, ◌-ℤ◌, ◌*ℤ◌, ◌≤ℤ◌, ◌<ℤ◌, sym, refl, ap, ◌∙◌, arith}
 use lib.IntN.{zero-*ℤ, suc_ℤ-*ℤ, +ℤ_assoc, +ℤ_idl, +ℤ_idr}
 use lib.Signed.{lt_z, ≤ℤ_refl}
 use Rattle.std.specs.Int.{int_min}
@@ -7,7 +7,7 @@ use Rattle.std.proofs.lemmas.Int.{ints, clamps}
 use Rattle.std.proofs.lemmas.Bool.{and_parts}
 use Rattle.curves.specs.declared.steps.Step.{Step}
 use Rattle.curves.specs.Costs.{CostLaws}
-use Rattle.curves.specs.Curve.{Rising, lower_at, upper_at, price_at, rises, last_upper, part_cost, cost_above, cost_at}
+use Rattle.curves.specs.Curve.{lower_at, upper_at, price_at, rises, last_upper, part_cost, cost_above}
 use Rattle.curves.proofs.Curves.{part_grows}
 use Rattle.curves.proofs.Decisions.{int_lt_to}
 use Rattle.curves.proofs.Places.{rising_decided}

@@ -1,13 +1,13 @@
 -- What the tests of a curve say of each of its steps.
 use Rattle.std.proofs.Common.{◌≡◌, ℕ, zero, suc, ◌-◌, ◌<◌, ◌≤◌, Bool, true, false, ◌&&◌, ◌||◌, eqb, ltb, List, [], ◌∷◌, length, get_or, ℤ, pos, ◌≤ℤ◌, ◌<ℤ◌, Decides, sym, refl, ap, ◌∙◌, inl, inr, arith, eq-eqb, ne_eqb}
 use lib.Signed.{le_z, lt_z}
-use Rattle.std.proofs.lemmas.Bool.{and_parts, and_from, and_left, and_right, or_parts, or_from, or_left, or_right, lt-ltb, le-ltb, cases_lt, cases_Bool}
+use Rattle.std.proofs.lemmas.Bool.{and_parts, and_from, or_left, or_right, lt-ltb, le-ltb, cases_lt, cases_Bool}
 use Rattle.curves.specs.declared.steps.Step.{Step}
 use Rattle.curves.specs.CurveLaws.{CurveLaws}
 use Rattle.std.proofs.lemmas.List.{length-map, get_or-map}
 use Rattle.std.proofs.lemmas.Int.{ints}
 use Rattle.curves.specs.Curve.{no_step, capped_step, upper_at, price_at, lower_at, price_before, Rising, Climbing, Above, rises, climbs, above, last_upper}
-use Rattle.curves.proofs.Decisions.{int_le_from, int_le_to, int_le_not, int_lt_from, int_lt_to, int_lt_not, int_lt_not_to}
+use Rattle.curves.proofs.Decisions.{int_le_from, int_le_to, int_lt_from, int_lt_to}
 
 -- a test that goes from step to step, by what it asks of a step and of the one before it
 module _ (get : Step → ℤ) (test : ℤ → ℤ → Bool) where

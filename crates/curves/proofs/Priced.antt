@@ -1,6 +1,5 @@
 -- Steps whose cost is told: they fit 64 bits.
-use Rattle.std.proofs.Common.{◌≡◌, ◌≤◌, Bool, true, false, not, ◌&&◌, leb, ℤ, pos, neg_ℤ, ◌≤ℤ◌, sym, refl, ap, ◌∙◌, arith, le-leb, leb-true}
-use lib.Signed.{le_z}
+use Rattle.std.proofs.Common.{◌≡◌, ◌≤◌, Bool, true, false, not, ◌&&◌, leb, ℤ, pos, neg_ℤ, ◌≤ℤ◌, sym, refl, arith, le-leb, leb-true}
 use Rattle.std.proofs.lemmas.List.{length-take}
 use Rattle.std.proofs.lemmas.Bool.{and_parts, and_from, cond-true}
 use Rattle.curves.specs.declared.steps.Steps.{Steps}

@@ -1,5 +1,5 @@
 -- What a gate means, and the laws that every gate shows.
-use Rattle.std.specs.Prelude.{◌≡◌, Bool, true, false, ℤ, pos, ◌≤ℤ◌, int_lt}
+use Rattle.std.specs.Prelude.{◌≡◌, Bool, true, ℤ, pos, ◌≤ℤ◌, int_lt}
 use Rattle.gates.specs.Minutes.{default_minute, end_of}
 
 -- whether an offer of that minute is admitted for that hour

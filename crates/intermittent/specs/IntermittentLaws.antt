@@ -5,7 +5,7 @@ use Rattle.std.proofs.Math.IntN.{+ℤ_idr}
 use Rattle.std.specs.Int.Signed.{≤ℤ_refl}
 use Rattle.offers.specs.declared.ceilings.Ceilings.{Ceilings}
 use Rattle.offers.specs.declared.terms.Terms.{Terms}
-use Rattle.offers.specs.Laws.{Allowed, Bring, Filed, Idle, Lawful}
+use Rattle.offers.specs.Laws.{Allowed, Filed, Idle, Lawful}
 use Rattle.offers.specs.Widest.{widest_terms}
 use Rattle.std.specs.Int.{int_min}
 use Rattle.std.proofs.lemmas.Int.{ints, clamps}

@@ -1,6 +1,5 @@
 -- The offer of an intermittent unit: one step up to its forecast, and a start price of 0.
 use Rattle.std.specs.Prelude.{◌≡◌, Bool, true, cond, ◌&&◌, ◌||◌, List, [], ◌∷◌, ℤ, pos, ◌≤ℤ◌, Decides, int_le, int_lt}
-use Rattle.offers.specs.declared.ceilings.Ceilings.{Ceilings}
 use Rattle.offers.specs.declared.terms.Terms.{Terms}
 use Rattle.offers.specs.Laws.{Allowed}
 use Rattle.offers.specs.Meaning.{Meaning}

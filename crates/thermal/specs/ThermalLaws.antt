@@ -1,13 +1,12 @@
 -- Thermal offers show the laws of every kind.
-use Rattle.std.specs.Prelude.{◌≡◌, ℕ, ◌-◌, ◌≤◌, Bool, true, false, cond, not, ◌&&◌, ◌||◌, List, [], ◌∷◌, length, ℤ, pos, ◌≤ℤ◌, Decides, int_le, int_lt, nat_le, refl}
+use Rattle.std.specs.Prelude.{◌≡◌, ◌-◌, ◌≤◌, Bool, true, false, cond, not, ◌&&◌, ◌||◌, List, [], ◌∷◌, length, ℤ, pos, ◌≤ℤ◌, Decides, int_le, int_lt, nat_le, refl}
 use Rattle.std.proofs.Common.{sym, ◌∙◌, ap, inl, inr, arith, leb-true, le-leb}
 use Rattle.std.specs.Int.Signed.{≤ℤ_refl}
 use Rattle.offers.specs.declared.ceilings.Ceilings.{Ceilings}
 use Rattle.offers.specs.declared.terms.Terms.{Terms}
-use Rattle.offers.specs.Laws.{Allowed, Bring, Filed, Idle, Lawful}
+use Rattle.offers.specs.Laws.{Allowed, Filed, Idle, Lawful}
 use Rattle.offers.specs.Widest.{widest_terms}
 use Rattle.std.specs.Int.{int_min}
-use Rattle.std.proofs.lemmas.List.{length-take}
 use Rattle.std.proofs.lemmas.Int.{ints, clamps}
 use Rattle.std.proofs.lemmas.Bool.{and_parts, and_from, and_left, and_right, or_from, or_parts, cond-true, cond-false, cases_Bool}
 use Rattle.std.proofs.lemmas.Bool.Decides.{not_from_Decides}
@@ -16,7 +15,7 @@ use Rattle.curves.specs.declared.steps.Steps.{Steps}
 use Rattle.thermal.specs.declared.Thermal.{Thermal}
 use Rattle.curves.specs.Curve.{upper_at, steps_in, lowered, above, climbs, cost_at, rises, last_upper}
 use Rattle.curves.specs.Priced.{step_cost}
-use Rattle.thermal.specs.Thermals.{Status, Economic, Emergency, Start, StepRules, Admissible, good_status, good_economic, good_emergency, good_limits, good_start, good_steps, int_equal, admits, possible, capped_body, meaning, Rules}
+use Rattle.thermal.specs.Thermals.{Status, Economic, Emergency, Start, Admissible, good_status, good_economic, good_emergency, good_limits, good_start, good_steps, int_equal, admits, possible, capped_body, meaning, Rules}
 use Rattle.curves.proofs.Curves.{no_dearer, above_capped, above_lower, above_wider, lesser_own, rises_grows, rises_capped, last_capped, climbs_capped, climbs_wider, steps_lowered, lowered_own}
 use Rattle.curves.proofs.Decisions.{int_le_from, int_le_to, int_lt_not, outside_0}
 use Rattle.curves.proofs.Priced.{not_true, not_false, cost_told}

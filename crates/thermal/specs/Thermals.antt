@@ -1,5 +1,5 @@
 -- The offer of a thermal unit.
-use Rattle.std.specs.Prelude.{◌≡◌, ℕ, ◌-◌, ◌≤◌, Bool, true, cond, not, ◌&&◌, ◌||◌, length, ℤ, pos, ◌≤ℤ◌, Decides, int_le, int_lt, nat_le}
+use Rattle.std.specs.Prelude.{◌≡◌, ◌-◌, ◌≤◌, Bool, true, cond, not, ◌&&◌, ◌||◌, length, ℤ, pos, ◌≤ℤ◌, Decides, int_le, int_lt, nat_le}
 use Rattle.offers.specs.declared.ceilings.Ceilings.{Ceilings}
 use Rattle.offers.specs.declared.terms.Terms.{Terms}
 use Rattle.offers.specs.Laws.{Allowed}

@@ -16,7 +16,7 @@ loop-s-preserved c =
     let x = get_or ss i no_step in
     let at : get_or c.loop-s.steps i no_step ≡ x = rw inv (map_at (capped_step c.args.ceiling) ss i no_step t) in
     let p : SFits w64 (get_or c.loop-s.steps i no_step).price = search rules in
-    let r : SFits w64 c.lesser-s.result = record { sfits = c.lesser-s.type-inv } in
+    let r : SFits w64 c.lesser-s.result = record { sfits = c.lesser-s.type_inv } in
     let m = simp to_z-of_z at c.lesser-s.ensures in
     let e : record { upper = (get_or c.loop-s.steps i no_step).upper; price = to_z w64 (of_z w64 c.lesser-s.result) } ≡ capped_step c.args.ceiling x = rw (to_z-of_z w64 c.lesser-s.result r, m, at) refl in
     let g : set c.loop-s.steps i (record { upper = (get_or c.loop-s.steps i no_step).upper; price = to_z w64 (of_z w64 c.lesser-s.result) }) ≡ (capped_steps c.args.ceiling (take (i + 1) ss) ++ drop (i + 1) ss) = rw (e, inv) (map_more (capped_step c.args.ceiling) ss i no_step t) in

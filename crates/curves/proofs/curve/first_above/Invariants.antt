@@ -1,5 +1,5 @@
-use Rattle.std.proofs.Common.{ℕ, ◌<◌, ◌≤ℤ◌, ◌<ℤ◌}
-use Rattle.curves.specs.Curve.{lower_at, upper_at, price_before, price_at}
+use Rattle.std.proofs.Common.{ℕ, ◌<◌, ◌≤ℤ◌}
+use Rattle.curves.specs.Curve.{price_at}
 use Rattle.curves.proofs.curve.first_above.Given as goal
 
 abbrev pub invariant-loop-i : goal.invariant-loop-i

@@ -7,5 +7,5 @@ use Rattle.curves.proofs.curve.is_rising.Goals as goal
 pub returns : goal.returns
 returns c =
     let ss = c.args.steps.now in
-    let told = c.first-not-rising.ensures in
+    let told = c.first_not_rising.ensures in
     all_keep (λ k. lower_at ss k <ℤ upper_at ss k) _ (length ss) _ (rising_decided ss) told.within told.before (λ l h. (let n = told.found l in omega (arith, ints)))

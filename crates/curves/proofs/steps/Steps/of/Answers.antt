@@ -6,5 +6,5 @@ use Rattle.curves.proofs.steps.Steps.of.Goals as goal
 pub returns : goal.returns
 returns c =
     let ss = c.args.steps.now in
-    let copied = c.copy-from-slice.ensures.after in
+    let copied = c.copy_from_slice.ensures.after in
     (packed_is ss _ (length ss - 0) copied (omega arith), rw copied (take_at ss _ _ refl))
