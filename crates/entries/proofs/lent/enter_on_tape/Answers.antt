@@ -14,8 +14,8 @@ returns g c =
     let es = c.args.entries.now in
     let slots = c.args.slots.now in
     let made : taped s ≡ new_of c.args.units c.args.places 2 (length slots) = simp to_z-of_z at c.new-tape.ensures.made in
-    let named : c.enter_all.new.ledger.slots.ghost_name ≡ s.slots.ghost_name = trace_name s c.enter_all.new.ledger _ c.enter_all.ensures.wrote in
-    let wrote = trace_slots s c.enter_all.new.ledger _ c.enter_all.ensures.wrote in
+    let named : c.enter_all.new.ledger.slots.ghost_name ≡ s.slots.ghost_name = trace_name s c.enter_all.new.ledger (writes_of (taped s) es) c.enter_all.ensures.wrote in
+    let wrote = trace_slots s c.enter_all.new.ledger (writes_of (taped s) es) c.enter_all.ensures.wrote in
     let back : _ ≡ c.enter_all.new.ledger.slots.now = search rules in
     record {
       answer = c.enter_all.ensures.answer ∙ ap (λ h. length (writes_of h es)) made;

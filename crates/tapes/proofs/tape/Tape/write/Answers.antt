@@ -1,4 +1,4 @@
-use Rattle.std.proofs.Common.{◌+◌, set, refl, ap, ◌∙◌, arith, length-set}
+use Rattle.std.proofs.Common.{◌+◌, set, refl, ap, ◌∙◌, length-set}
 use mathlib.Core.Path.{fun_ext}
 use Rattle.tapes.proofs.Tapes.{filings_now, filled_now, counts_now, short_now, none_now, spent_now, orderly_now}
 use Rattle.tapes.proofs.tape.Tape.write.Goals as goal
@@ -17,9 +17,9 @@ invariant_of-self g c =
     let most = c.max.ensures in
     record {
       counted = length-set s.lens u m ∙ s.counted;
-      indexed = length-set s.latest k i ∙ s.indexed;
+      indexed = length-set s.latest k _ ∙ s.indexed;
       filled = filled_now s u p f c.requires i is k m at most;
-      fits = omega (arith, s.fits, length-set s.slots.now i (record { unit = u; place = p; filing = f }));
+      fits = simp length-set s.fits;
       short = short_now s u p f c.requires i is k m at most;
       none = none_now s u p f c.requires i is k m at most;
       spent = spent_now s u p f c.requires i is;
