@@ -1,5 +1,5 @@
 use Rattle.std.proofs.Common.{refl, arith, w64, SFits}
-use mathlib.Core.Path.{fun_ext}
+use Rattle.std.proofs.Math.Path.{fun_ext}
 use Rattle.std.proofs.lemmas.Int.{to_z-of_z}
 use Rattle.ledgers.proofs.Rows.{zeros, row_empty}
 use Rattle.shelves.proofs.shelf.Shelf.new.Goals as goal

@@ -1,5 +1,5 @@
 use Rattle.std.proofs.Common.{◌<◌, ◌≤◌, length, get_or, set, refl, ap, ◌∙◌, arith, length-set}
-use mathlib.Core.Path.{fun_ext}
+use Rattle.std.proofs.Math.Path.{fun_ext}
 use Rattle.ledgers.specs.Rows.{row}
 use Rattle.ledgers.proofs.Rows.{filled_more, rows_written, row_length}
 use Rattle.shelves.proofs.shelf.Shelf.write.Goals as goal

@@ -1,5 +1,5 @@
 use Rattle.std.proofs.Common.{◌+◌, set, refl, ap, ◌∙◌, length-set}
-use mathlib.Core.Path.{fun_ext}
+use Rattle.std.proofs.Math.Path.{fun_ext}
 use Rattle.tapes.proofs.Tapes.{filings_now, filled_now, counts_now, short_now, none_now, spent_now, orderly_now}
 use Rattle.tapes.proofs.tape.Tape.write.Goals as goal
 
