@@ -1,7 +1,7 @@
 ghost use Rattle.std.specs.Prelude.{◌≡◌, length};
 ghost use Rattle.ledgers.specs.Sizes.{new_of};
-ghost use Rattle.shelves.specs.Shelves.{«slots_after» as shelfSlots};
-ghost use Rattle.tapes.specs.Tapes.{«slots_after» as tapeSlots};
+ghost use Rattle.shelves.specs.Shelves.{slots_after as shelf_slots};
+ghost use Rattle.tapes.specs.Tapes.{slots_after as tape_slots};
 ghost use Rattle.entries.specs.Entries.{writes_of};
 
 use crate::enter::enter_all;
@@ -19,7 +19,7 @@ pub fn enter_on_shelf<B: Copy>(
     entries: &[Entry<B>],
 ) -> usize
     ensures answer { result ≡ length (writes_of (new_of units places 1 (length slots.old)) entries.now) }
-    ensures slots { slots.new ≡ shelfSlots (new_of {B = B} units places 1 (length slots.old)).places slots.old (writes_of (new_of units places 1 (length slots.old)) entries.now) }
+    ensures slots { slots.new ≡ shelf_slots (new_of {B = B} units places 1 (length slots.old)).places slots.old (writes_of (new_of units places 1 (length slots.old)) entries.now) }
 {
     let mut shelf = Shelf::new(units, places, slots);
     enter_all(&mut shelf, entries)
@@ -33,7 +33,7 @@ pub fn enter_on_tape<B: Copy>(
     entries: &[Entry<B>],
 ) -> usize
     ensures answer { result ≡ length (writes_of (new_of units places 2 (length slots.old)) entries.now) }
-    ensures slots { slots.new ≡ tapeSlots 0 slots.old (writes_of (new_of units places 2 (length slots.old)) entries.now) }
+    ensures slots { slots.new ≡ tape_slots 0 slots.old (writes_of (new_of units places 2 (length slots.old)) entries.now) }
 {
     let mut tape = Tape::new(units, places, slots);
     enter_all(&mut tape, entries)

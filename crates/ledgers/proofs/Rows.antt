@@ -1,7 +1,7 @@
 -- Rows of equal width in one list, of which each has a first part in use: before and after a write.
-use Rattle.std.proofs.Common.{◌≡◌, ℕ, zero, suc, ◌+◌, ◌-◌, ◌*◌, ◌<◌, ◌≤◌, max, Bool, true, false, cond, eqb, ltb, ◌≢◌, ◌⊎◌, List, [], ◌∷◌, length, get_or, take, drop, set, replicate, Some, None, Option, sym, refl, ap, ◌∙◌, inl, inr, ⊎_elim, suc-le-suc, zero-le, le_of_suc-le-suc, not-suc-le-zero, mul-le-mul_right, suc-mul, arith, length-drop, length-take, get_or-drop, get_or-set_other, get_or-take, get_or-set_same, drop-set-lt, le-ltb, lt-ltb}
-use lib.Seq.{take-set-le, drop-set-add}
-use Rattle.std.proofs.lemmas.Option.{slice_get-get_or, slice_get_past}
+use Rattle.std.proofs.Common.{◌≡◌, ℕ, zero, suc, ◌+◌, ◌-◌, ◌*◌, ◌<◌, ◌≤◌, max, Bool, true, false, cond, eqb, ltb, ◌≢◌, ◌⊎◌, List, [], ◌∷◌, length, get_or, take, drop, set, replicate, Some, sym, refl, ap, ◌∙◌, inl, inr, ⊎_elim, suc-le-suc, zero-le, le_of_suc-le-suc, not-suc-le-zero, mul-le-mul_right, suc-mul, arith, length-drop, length-take, get_or-drop, get_or-set_other, get_or-take, get_or-set_same, drop-set-lt, le-ltb, lt-ltb}
+use Rattle.std.proofs.lemmas.List.{take-set-le, drop-set-add}
+use Rattle.std.proofs.lemmas.Option.{slice_get-get_or}
 use Rattle.std.proofs.lemmas.Bool.Decides.{eqb_tells, leb_tells}
 use Rattle.std.specs.List.{slice_get}
 use Rattle.ledgers.specs.Puts.{put}

@@ -1,5 +1,5 @@
 -- The sizes that a check allows, in naturals.
-use Rattle.std.proofs.Common.{◌≡◌, ℕ, ◌*◌, ◌<◌, ◌≤◌, Bool, true, false, cond, leb, ℤ, pos, negsuc, nat_abs, is_err, Ok, Err, sym, refl, ap, ◌∙◌, subst, mul-le-mul, arith, leb-true}
+use Rattle.std.proofs.Common.{◌≡◌, ℕ, ◌*◌, ◌≤◌, Bool, true, false, cond, leb, ℤ, pos, negsuc, nat_abs, is_err, Ok, Err, sym, refl, ap, mul-le-mul, arith, leb-true}
 use Rattle.std.proofs.lemmas.Int.{ints}
 use Rattle.std.proofs.lemmas.Bool.Decides.{nat_tests}
 use Rattle.refusals.specs.declared.Refusal.TheVariants.{LedgerSize, TooFewSlots}

@@ -1,12 +1,11 @@
 -- An add and a mark as writes to a list.
-use Rattle.std.proofs.Common.{◌≡◌, ℕ, zero, suc, ◌+◌, ◌<◌, ◌≤◌, Bool, true, false, cond, ◌&&◌, eqb, ltb, List, [], ◌∷◌, ◌++◌, length, set, ℤ, pos, negsuc, Some, None, Ok, Err, Option, Result, sym, refl, ap, ◌∙◌, subst, ⊎_elim, suc-le-suc, le_of_suc-le-suc, not-suc-le-zero, arith, le-ltb, lt-ltb}
+use Rattle.std.proofs.Common.{◌≡◌, ℕ, zero, suc, ◌+◌, ◌<◌, Bool, true, false, cond, ◌&&◌, eqb, ltb, List, [], ◌∷◌, ◌++◌, length, set, ℤ, pos, negsuc, Some, None, Ok, Err, Option, Result, sym, refl, ap, ◌∙◌, subst, ⊎_elim, suc-le-suc, le_of_suc-le-suc, not-suc-le-zero, arith}
 use Rattle.std.proofs.lemmas.Bool.Decides.{leb_tells}
 use Rattle.std.specs.List.{slice_get}
 use Rattle.refusals.specs.declared.Refusal.{Refusal}
 use Rattle.refusals.specs.declared.Refusal.TheVariants.{UnknownUnit, ListFull, NotMarkable}
 use Rattle.ledgers.specs.declared.filing.Filing.{Filing}
-use Rattle.ledgers.specs.declared.verdict.Verdict.{Verdict}
-use Rattle.ledgers.specs.declared.verdict.Verdict.TheVariants.{Waiting, Consistent, Capped, PassedOver}
+use Rattle.ledgers.specs.declared.verdict.Verdict.TheVariants.{Consistent, Capped, PassedOver}
 use Rattle.ledgers.specs.declared.write.Write.{Write}
 use Rattle.ledgers.specs.Verdicts.{waits, judgement}
 use Rattle.ledgers.specs.Held.{Held, Bounded, number_below, natural_of}

@@ -1,6 +1,5 @@
 -- What a ledger holds, and what its questions answer.
-use Rattle.std.specs.Prelude.{◌≡◌, ℕ, ◌≤◌, Bool, cond, ◌⊎◌, List, [], ◌∷◌, length, ℤ, pos, negsuc, Some, None, Option, nat_lt, refl}
-use Rattle.std.proofs.Common.{inl, inr}
+use Rattle.std.specs.Prelude.{◌≡◌, ℕ, ◌≤◌, cond, ◌⊎◌, List, [], length, ℤ, pos, negsuc, Some, None, Option, nat_lt}
 use Rattle.std.specs.List.{slice_get}
 use Rattle.ledgers.specs.declared.filing.Filing.{Filing}
 use Rattle.ledgers.specs.declared.filing.Head.{Head}

@@ -1,7 +1,6 @@
 -- What a write does to a list, and which writes can come next.
-use Rattle.std.specs.Prelude.{◌≡◌, ℕ, zero, suc, ◌+◌, ◌<◌, ◌≤◌, cond, eqb, List, [], ◌∷◌, length}
+use Rattle.std.specs.Prelude.{◌≡◌, ℕ, zero, suc, ◌+◌, ◌<◌, ◌≤◌, cond, List, [], ◌∷◌, length}
 use Rattle.ledgers.specs.declared.filing.Filing.{Filing}
-use Rattle.ledgers.specs.declared.verdict.Verdict.{Verdict}
 use Rattle.ledgers.specs.declared.write.Write.{Write}
 use Rattle.ledgers.specs.Held.{Held}
 use Rattle.ledgers.specs.Verdicts.{waits}

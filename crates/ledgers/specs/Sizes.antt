@@ -1,5 +1,5 @@
 -- Which sizes a ledger can have, and what it holds when it is new.
-use Rattle.std.specs.Prelude.{◌≡◌, ℕ, zero, suc, ◌*◌, ◌≤◌, Bool, cond, ◌&&◌, ◌⊎◌, List, [], ℤ, pos, Ok, Err, Result, int_le, nat_le, unsigned_abs, refl}
+use Rattle.std.specs.Prelude.{◌≡◌, ℕ, zero, suc, ◌*◌, ◌≤◌, Bool, cond, ◌&&◌, ◌⊎◌, [], ℤ, pos, Ok, Err, Result, int_le, nat_le, unsigned_abs, refl}
 use Rattle.std.proofs.Common.{inl, inr, zero-le, suc-le-suc, not-suc-le-zero}
 use Rattle.refusals.specs.declared.Refusal.{Refusal}
 use Rattle.refusals.specs.declared.Refusal.TheVariants.{LedgerSize, TooFewSlots}

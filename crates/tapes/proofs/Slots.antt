@@ -1,5 +1,5 @@
 -- The lists that written slots stand for: one slot more, where each filing stands, and how many slots are needed.
-use Rattle.std.proofs.Common.{◌≡◌, ℕ, zero, suc, ◌+◌, ◌*◌, ◌<◌, ◌≤◌, Bool, true, false, cond, eqb, List, [], ◌∷◌, ◌++◌, length, get_or, Some, None, Option, sym, refl, ap, ◌∙◌, subst, ⊎_elim, append_assoc, add-zero, add-suc, suc-mul, suc-add, arith, length-append}
+use Rattle.std.proofs.Common.{◌≡◌, ℕ, zero, suc, ◌+◌, ◌*◌, ◌<◌, ◌≤◌, Bool, true, false, cond, eqb, List, [], ◌∷◌, ◌++◌, length, get_or, Some, None, sym, refl, ap, ◌∙◌, ⊎_elim, append_assoc, suc-mul, arith, length-append}
 use Rattle.std.proofs.lemmas.List.{get_or_at, length_push}
 use Rattle.std.proofs.lemmas.Option.{slice_get_past}
 use Rattle.std.proofs.lemmas.Bool.Decides.{eqb_tells}
@@ -10,7 +10,7 @@ use Rattle.ledgers.specs.Verdicts.{waits}
 use Rattle.ledgers.specs.Puts.{put, made}
 use Rattle.ledgers.specs.Rows.{row}
 use Rattle.ledgers.proofs.Rows.{row_short, row_unknown}
-use Rattle.tapes.specs.Slots.{total, list_by, filings, counting, spent_on}
+use Rattle.tapes.specs.Slots.{total, list_by, filings, counting}
 
 pub total_none : (n : ℕ) → total (λ u. 0) n ≡ 0
 total_none zero = refl

@@ -1,18 +1,17 @@
 -- A tape before and after a write that fits.
-use Rattle.std.proofs.Common.{◌≡◌, ℕ, suc, ◌+◌, ◌*◌, ◌<◌, ◌≤◌, max, Bool, true, false, cond, eqb, ◌⊎◌, List, [], ◌∷◌, ◌++◌, length, get_or, take, set, Some, None, sym, refl, ap, ◌∙◌, subst, ⊎_elim, mul-le-mul, mul-le-mul_left, mul_left_comm, arith, length-take, get_or-set_other, get_or-set_same}
-use mathlib.Core.Path.{fun_ext}
+use Rattle.std.proofs.Common.{◌≡◌, ℕ, ◌+◌, ◌*◌, ◌<◌, ◌≤◌, max, Bool, true, false, cond, eqb, ◌⊎◌, List, [], ◌∷◌, ◌++◌, length, get_or, take, set, Some, None, sym, refl, ap, ◌∙◌, subst, ⊎_elim, mul-le-mul, mul-le-mul_left, mul_left_comm, arith, length-take, get_or-set_other, get_or-set_same}
+use Rattle.std.proofs.Math.Path.{fun_ext}
 use Rattle.std.proofs.lemmas.List.{take_more_set, take-set, take-set-le, get_or_default}
 use Rattle.std.proofs.lemmas.Option.{slice_get_past}
 use Rattle.std.proofs.lemmas.Bool.Decides.{eqb_tells}
 use Rattle.std.specs.List.{slice_get}
 use Rattle.ledgers.specs.declared.filing.Filing.{Filing}
 use Rattle.ledgers.specs.declared.write.Write.{Write}
-use Rattle.ledgers.specs.Held.{Held}
-use Rattle.ledgers.specs.Puts.{put, made, written, Fits}
+use Rattle.ledgers.specs.Puts.{put, made, Fits}
 use Rattle.ledgers.specs.Rows.{row}
 use Rattle.ledgers.proofs.Rows.{rows_apart, rows_written, row_length, row_unknown, row_at, filled_more}
 use Rattle.tapes.specs.declared.tape.Tape.{Tape}
-use Rattle.tapes.specs.Slots.{total, list_by, filings, counting, spent_on, Orderly}
+use Rattle.tapes.specs.Slots.{total, filings, counting, spent_on, Orderly}
 use Rattle.tapes.specs.Tapes.{taped}
 use Rattle.tapes.proofs.Slots.{ne_lt, total_more, total_most, made_most, put_short, list_more, filings_length, short_list, no_list}
 

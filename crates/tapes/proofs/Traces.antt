@@ -1,5 +1,5 @@
 -- The slots of a tape after writes one after another.
-use Rattle.std.proofs.Common.{◌≡◌, ℕ, suc, ◌+◌, ◌<◌, List, [], ◌∷◌, ◌++◌, length, take, drop, set, sym, refl, ap, ◌∙◌, arith, length-set}
+use Rattle.std.proofs.Common.{◌≡◌, ℕ, suc, ◌+◌, ◌<◌, List, [], ◌∷◌, ◌++◌, length, take, drop, set, sym, ap, ◌∙◌, arith, length-set}
 use Rattle.std.proofs.lemmas.List.{append-nil, append_assoc, take-append-drop, take_more_set, drop-set-lt}
 use Rattle.ledgers.specs.declared.write.Write.{Write}
 use Rattle.ledgers.specs.Writes.{Trace}

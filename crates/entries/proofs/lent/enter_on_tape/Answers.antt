@@ -14,10 +14,10 @@ returns g c =
     let es = c.args.entries.now in
     let slots = c.args.slots.now in
     let made : taped s ≡ new_of c.args.units c.args.places 2 (length slots) = simp to_z-of_z at c.new-tape.ensures.made in
-    let named : c.enter-all.new.ledger.slots.ghost_name ≡ s.slots.ghost_name = trace_name s c.enter-all.new.ledger _ c.enter-all.ensures.wrote in
-    let wrote = trace_slots s c.enter-all.new.ledger _ c.enter-all.ensures.wrote in
-    let back : _ ≡ c.enter-all.new.ledger.slots.now = search rules in
+    let named : c.enter_all.new.ledger.slots.ghost_name ≡ s.slots.ghost_name = trace_name s c.enter_all.new.ledger (writes_of (taped s) es) c.enter_all.ensures.wrote in
+    let wrote = trace_slots s c.enter_all.new.ledger (writes_of (taped s) es) c.enter_all.ensures.wrote in
+    let back : _ ≡ c.enter_all.new.ledger.slots.now = search rules in
     record {
-      answer = c.enter-all.ensures.answer ∙ ap (λ h. length (writes_of h es)) made;
+      answer = c.enter_all.ensures.answer ∙ ap (λ h. length (writes_of h es)) made;
       slots = back ∙ wrote ∙ ap (λ n. slots_after n s.slots.now (writes_of (taped s) es)) c.new-tape.ensures.unused ∙ ap (λ xs. slots_after 0 xs (writes_of (taped s) es)) c.new-tape.ensures.same ∙ ap (λ h. slots_after 0 slots (writes_of h es)) made;
     }

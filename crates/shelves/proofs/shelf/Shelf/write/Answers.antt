@@ -1,13 +1,13 @@
 use Rattle.std.proofs.Common.{◌<◌, ◌≤◌, length, get_or, set, refl, ap, ◌∙◌, arith, length-set}
-use mathlib.Core.Path.{fun_ext}
+use Rattle.std.proofs.Math.Path.{fun_ext}
 use Rattle.ledgers.specs.Rows.{row}
 use Rattle.ledgers.proofs.Rows.{filled_more, rows_written, row_length}
 use Rattle.shelves.proofs.shelf.Shelf.write.Goals as goal
 
-pub invariant-of-self : goal.invariant-of-self
-invariant-of-self g c =
+pub invariant_of-self : goal.invariant_of-self
+invariant_of-self g c =
     let s = c.args.self.now in
-    (length-set s.lens c.args.u _ ∙ s.counted, (s.fits, (filled_more s.lens c.args.u _ s.size.places s.filled (omega (arith, s.filled c.args.u)), tt)))
+    record { counted = length-set s.lens c.args.u _ ∙ s.counted; fits = s.fits; filled = filled_more s.lens c.args.u _ s.size.places s.filled (omega (arith, s.filled c.args.u)) }
 
 pub returns : goal.returns
 returns g c =

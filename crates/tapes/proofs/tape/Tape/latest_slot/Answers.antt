@@ -1,4 +1,4 @@
-use Rattle.std.proofs.Common.{get_or, sym, ap, ◌∙◌, subst, inl, inr}
+use Rattle.std.proofs.Common.{get_or, sym, ap, subst, inl, inr}
 use Rattle.tapes.specs.Slots.{Latest}
 use Rattle.tapes.proofs.Latest.{latest_so}
 use Rattle.tapes.proofs.Tapes.{used_within, counts_at, counts_none}

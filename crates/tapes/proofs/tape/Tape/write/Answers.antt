@@ -1,10 +1,10 @@
-use Rattle.std.proofs.Common.{◌+◌, set, refl, ap, ◌∙◌, arith, length-set}
-use mathlib.Core.Path.{fun_ext}
+use Rattle.std.proofs.Common.{◌+◌, set, refl, ap, ◌∙◌, length-set}
+use Rattle.std.proofs.Math.Path.{fun_ext}
 use Rattle.tapes.proofs.Tapes.{filings_now, filled_now, counts_now, short_now, none_now, spent_now, orderly_now}
 use Rattle.tapes.proofs.tape.Tape.write.Goals as goal
 
-pub invariant-of-self : goal.invariant-of-self
-invariant-of-self g c =
+pub invariant_of-self : goal.invariant_of-self
+invariant_of-self g c =
     let s = c.args.self.now in
     let u = c.args.u in
     let p = c.args.p in
@@ -14,31 +14,18 @@ invariant-of-self g c =
     let k = c.spot-k.result in
     let m = c.max.result in
     let at = c.spot-k.ensures.value in
-    let most = c.max.ensures in (
-      length-set s.lens u m ∙ s.counted,
-      (
-        length-set s.latest k i ∙ s.indexed,
-        (
-          filled_now s u p f c.requires i is k m at most,
-          (
-            omega (arith, s.fits, length-set s.slots.now i (record { unit = u; place = p; filing = f })),
-            (
-              short_now s u p f c.requires i is k m at most,
-              (
-                none_now s u p f c.requires i is k m at most,
-                (
-                  spent_now s u p f c.requires i is,
-                  (
-                    orderly_now s u p f c.requires i is,
-                    (counts_now s u p f c.requires i is k m at most, tt),
-                  ),
-                ),
-              ),
-            ),
-          ),
-        ),
-      ),
-    )
+    let most = c.max.ensures in
+    record {
+      counted = length-set s.lens u m ∙ s.counted;
+      indexed = length-set s.latest k _ ∙ s.indexed;
+      filled = filled_now s u p f c.requires i is k m at most;
+      fits = simp length-set s.fits;
+      short = short_now s u p f c.requires i is k m at most;
+      none = none_now s u p f c.requires i is k m at most;
+      spent = spent_now s u p f c.requires i is;
+      orderly = orderly_now s u p f c.requires i is;
+      counts = counts_now s u p f c.requires i is k m at most;
+    }
 
 pub returns : goal.returns
 returns g c =

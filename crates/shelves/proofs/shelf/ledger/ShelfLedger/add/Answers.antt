@@ -1,4 +1,4 @@
-use Rattle.std.proofs.Common.{◌≡◌, ◌<◌, ◌≤◌, Ok, sym, ap, ◌∙◌, subst, arith, w64, SFits}
+use Rattle.std.proofs.Common.{◌≡◌, ◌<◌, ◌≤◌, Ok, ap, ◌∙◌, subst, arith, w64, SFits}
 use Rattle.std.proofs.lemmas.Int.{to_z-of_z, to_z_pos}
 use Rattle.ledgers.specs.Verdicts.{waits}
 use Rattle.ledgers.specs.Writes.{waiting, add_of, place_in, Wrote}
@@ -9,20 +9,20 @@ use Rattle.shelves.proofs.shelf.ledger.ShelfLedger.add.Goals as goal
 pub write-requires : goal.write-requires
 write-requires g c =
     let fu : SFits w64 c.args.unit = c.ranges.unit in
-    let made = simp to_z-of_z at c.in-ok-w.ensures in
-    add_fits (shelved c.args.self.now) c.args.unit c.waiting.result c.in-ok-w.w made (ap (λ f. waits f.verdict) c.waiting.ensures)
+    let made = simp to_z-of_z at c.in_ok-w.ensures in
+    add_fits (shelved c.args.self.now) c.args.unit c.waiting.result c.in_ok-w.w made (ap (λ f. waits f.verdict) c.waiting.ensures)
 
 pub returns : goal.returns
 returns g c =
     let s = c.args.self.now in
-    let w = c.in-ok-w.w in
+    let w = c.in_ok-w.w in
     let fu : SFits w64 c.args.unit = c.ranges.unit in
     let fm : SFits w64 c.args.minute = c.ranges.minute in
     let ff : SFits w64 c.args.first = c.ranges.first in
     let fl : SFits w64 c.args.last = c.ranges.last in
     let f = waiting c.args.minute c.args.first c.args.last c.args.body in
     let same = simp to_z-of_z at c.waiting.ensures in
-    let made = simp to_z-of_z at c.in-ok-w.ensures in
+    let made = simp to_z-of_z at c.in_ok-w.ensures in
     let is : Ok w ≡ add_of (shelved s) c.args.unit f = made ∙ ap (add_of (shelved s) c.args.unit) same in
     let room : w.place < (shelved s).places = (add_fits (shelved s) c.args.unit c.waiting.result w made (ap (λ x. waits x.verdict) c.waiting.ensures)).room in
     let narrow : (shelved s).places ≤ 64 = (shelf_bounded s).narrow in

@@ -12,17 +12,17 @@ write-requires g c =
     let fp : SFits w64 c.args.place = c.ranges.place in
     let fv : SFits w64 c.args.verdict = c.ranges.verdict in
     let fr : SFits w64 c.args.round = c.ranges.round in
-    mark_fits (taped s) c.args.unit c.args.place c.args.verdict c.args.round c.in-ok-w.w (simp to_z-of_z at c.in-ok-w.ensures) (tape_bounded s)
+    mark_fits (taped s) c.args.unit c.args.place c.args.verdict c.args.round c.in_ok-w.w (simp to_z-of_z at c.in_ok-w.ensures) (tape_bounded s)
 
 pub returns : goal.returns
 returns g c =
     let s = c.args.self.now in
-    let w = c.in-ok-w.w in
+    let w = c.in_ok-w.w in
     let fu : SFits w64 c.args.unit = c.ranges.unit in
     let fp : SFits w64 c.args.place = c.ranges.place in
     let fv : SFits w64 c.args.verdict = c.ranges.verdict in
     let fr : SFits w64 c.args.round = c.ranges.round in
-    let is : Ok w ≡ mark_of (taped s) c.args.unit c.args.place c.args.verdict c.args.round = simp to_z-of_z at c.in-ok-w.ensures in
+    let is : Ok w ≡ mark_of (taped s) c.args.unit c.args.place c.args.verdict c.args.round = simp to_z-of_z at c.in_ok-w.ensures in
     record {
       answer = ap told_of is;
       after = c.write.ensures.after ∙ mark_after (taped s) c.args.unit c.args.place c.args.verdict c.args.round w is;

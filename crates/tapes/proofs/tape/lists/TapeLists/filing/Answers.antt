@@ -1,31 +1,29 @@
 use Rattle.std.proofs.Common.{◌≡◌, ◌<◌, length, get_or, take, Some, sym, ap, ◌∙◌, arith, get_or-take}
 use Rattle.tapes.proofs.Slots.{filing_at_lem, filing_none}
 use Rattle.tapes.proofs.Tapes.{used_within}
-use Rattle.tapes.proofs.tape.lists.TapeLists.filing.Given as given
 use Rattle.tapes.proofs.tape.lists.TapeLists.filing.Goals as goal
 
-pub returns-in-err-i : goal.returns-in-err-i
-returns-in-err-i g c =
+pub returns-in_err-i : goal.returns-in_err-i
+returns-in_err-i g c =
     let s = c.args.self.now in
-    c.from-residual.ensures ∙ filing_none (take s.used s.slots.now) c.args.u c.args.p c.in-err-i.ensures.counts
+    c.from_residual.ensures ∙ filing_none (take s.used s.slots.now) c.args.u c.args.p c.in_err-i.ensures.counts
 
-inside : (g : given.Over) (c : goal.After-slots·1 g) → c.in-ok-i.i < length c.args.self.now.slots.now
-inside g c = omega (arith, c.in-ok-i.ensures.latest.0, used_within c.args.self.now)
-
-pub offset-bounds-slots-i : goal.offset-bounds-slots-i
-offset-bounds-slots-i g c = let lt = inside g c in omega arith
+pub offset_bounds-slots-i : goal.offset_bounds-slots-i
+offset_bounds-slots-i g c =
+    let lt : c.in_ok-i.i < length c.args.self.now.slots.now = omega (arith, c.in_ok-i.ensures.latest.0, used_within c.args.self.now) in
+    omega arith
 
 pub bounds-slots-i : goal.bounds-slots-i
-bounds-slots-i g c = inside g c
+bounds-slots-i g c = omega (arith, c.in_ok-i.ensures.latest.0, used_within c.args.self.now)
 
-pub bounds-slots-i-in-ok-i : goal.bounds-slots-i-in-ok-i
-bounds-slots-i-in-ok-i g c = inside g c
+pub bounds-slots-i-in_ok-i : goal.bounds-slots-i-in_ok-i
+bounds-slots-i-in_ok-i g c = omega (arith, c.in_ok-i.ensures.latest.0, used_within c.args.self.now)
 
 pub returns : goal.returns
 returns g c =
     let s = c.args.self.now in
-    let i = c.in-ok-i.i in
+    let i = c.in_ok-i.i in
     let w = c.index-slots-i.result in
-    let lt : i < s.used = c.in-ok-i.ensures.latest.0 in
+    let lt : i < s.used = c.in_ok-i.ensures.latest.0 in
     let is : w ≡ get_or (take s.used s.slots.now) i w = c.index-slots-i.is ∙ sym (get_or-take s.used s.slots.now i w lt) in
-    ap (λ x. Some x.filing) (sym c.index-slots-i.is) ∙ (filing_at_lem (take s.used s.slots.now) c.args.u c.args.p i w c.in-ok-i.ensures.counts is).1
+    ap (λ x. Some x.filing) (sym c.index-slots-i.is) ∙ (filing_at_lem (take s.used s.slots.now) c.args.u c.args.p i w c.in_ok-i.ensures.counts is).1
