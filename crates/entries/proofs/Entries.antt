@@ -1,6 +1,6 @@
 -- A list of adds and marks, one more at a time.
 use Rattle.std.proofs.Common.{◌≡◌, ℕ, ◌+◌, true, false, List, [], ◌∷◌, ◌++◌, length, is_ok, Ok, Err, Result, sym, refl, ap, ◌∙◌, subst, arith, length-append}
-use Rattle.refusals.specs.declared.Refusal.{Refusal}
+use Rattle.refusals.specs.declared.ledger.LedgerRefusal.{LedgerRefusal}
 use Rattle.ledgers.specs.declared.write.Write.{Write}
 use Rattle.ledgers.specs.Held.{Held}
 use Rattle.ledgers.specs.Writes.{Wrote, Trace}
@@ -13,7 +13,7 @@ module _ {B : Type 0} where
   held_more h [] e = refl
   held_more h (x ∷ es) e = held_more (after_entry h x) es e
 
-  with_append : (r : Result (Write B) Refusal) (ws vs : List (Write B)) → with_write r (ws ++ vs) ≡ with_write r ws ++ vs
+  with_append : (r : Result (Write B) LedgerRefusal) (ws vs : List (Write B)) → with_write r (ws ++ vs) ≡ with_write r ws ++ vs
   with_append (Ok w) ws vs = refl
   with_append (Err e) ws vs = refl
 
@@ -21,11 +21,11 @@ module _ {B : Type 0} where
   writes_more h [] e = refl
   writes_more h (x ∷ es) e = ap (with_write (entered h x)) (writes_more (after_entry h x) es e) ∙ with_append (entered h x) (writes_of (after_entry h x) es) _
 
-  with_one : (r : Result (Write B) Refusal) → is_ok r ≡ true → length (with_write r []) ≡ 1
+  with_one : (r : Result (Write B) LedgerRefusal) → is_ok r ≡ true → length (with_write r []) ≡ 1
   with_one (Ok w) is = refl
   with_one (Err e) is = let z : ◌≡◌ {A = ℕ} 0 1 = cc in absurd (let q : ⊥ = omega arith in q)
 
-  with_none : (r : Result (Write B) Refusal) → is_ok r ≡ false → length (with_write r []) ≡ 0
+  with_none : (r : Result (Write B) LedgerRefusal) → is_ok r ≡ false → length (with_write r []) ≡ 0
   with_none (Ok w) is = let z : ◌≡◌ {A = ℕ} 0 1 = cc in absurd (let q : ⊥ = omega arith in q)
   with_none (Err e) is = refl
 
@@ -39,7 +39,7 @@ module _ {B S : Type 0} (W : S → Write B → S → Type 0) (holds : S → Held
   pub entered_none : (s : S) → Entered s s [] 0
   entered_none s = record { held = refl; trace = refl; count = refl }
 
-  one_write : (m t : S) (r : Result (Write B) Refusal) → Wrote W m r t → Trace W m (with_write r []) t
+  one_write : (m t : S) (r : Result (Write B) LedgerRefusal) → Wrote W m r t → Trace W m (with_write r []) t
   one_write m t (Ok w) did = (t, did, refl)
   one_write m t (Err e) did = sym did
 

@@ -1,6 +1,6 @@
 -- What a list of adds and marks comes to.
 use Rattle.std.specs.Prelude.{List, [], ◌∷◌, Ok, Err, Result}
-use Rattle.refusals.specs.declared.Refusal.{Refusal}
+use Rattle.refusals.specs.declared.ledger.LedgerRefusal.{LedgerRefusal}
 use Rattle.ledgers.specs.declared.write.Write.{Write}
 use Rattle.ledgers.specs.Held.{Held}
 use Rattle.ledgers.specs.Writes.{waiting, add_of, mark_of, after_add, after_mark}
@@ -9,7 +9,7 @@ use Rattle.entries.specs.declared.entry.Entry.TheVariants.{Add, Mark}
 
 module _ {B : Type 0} where
   -- the write that it makes, or its refusal
-  abbrev pub entered : Held B → Entry B → Result (Write B) Refusal
+  abbrev pub entered : Held B → Entry B → Result (Write B) LedgerRefusal
   entered h (Add unit minute first last body) = add_of h unit (waiting minute first last body)
   entered h (Mark unit place verdict round) = mark_of h unit place verdict round
 
@@ -22,7 +22,7 @@ module _ {B : Type 0} where
   held_after h [] = h
   held_after h (e ∷ es) = held_after (after_entry h e) es
 
-  abbrev pub with_write : Result (Write B) Refusal → List (Write B) → List (Write B)
+  abbrev pub with_write : Result (Write B) LedgerRefusal → List (Write B) → List (Write B)
   with_write (Ok w) ws = w ∷ ws
   with_write (Err e) ws = ws
 

@@ -1,14 +1,14 @@
 use ledgers::filing::Filing;
 use ledgers::ledger::Ledger;
 use ledgers::write::Write;
-use refusals::Refusal;
+use refusals::ledger::LedgerRefusal;
 use shelves::shelf::Shelf;
 use shelves::shelf::methods::check as check_shelf;
 use tapes::tape::Tape;
 use tapes::tape::methods::check as check_tape;
 
 // The number of a refusal, or 0.
-fn number(answer: Result<(), Refusal>) -> u32 {
+fn number(answer: Result<(), LedgerRefusal>) -> u32 {
     match answer {
         Ok(()) => 0,
         Err(refusal) => refusal.number(),

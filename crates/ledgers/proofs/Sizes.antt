@@ -2,7 +2,7 @@
 use Rattle.std.proofs.Common.{◌≡◌, ℕ, ◌*◌, ◌≤◌, Bool, true, false, cond, leb, ℤ, pos, negsuc, nat_abs, is_err, Ok, Err, sym, refl, ap, mul-le-mul, arith, leb-true}
 use Rattle.std.proofs.lemmas.Int.{ints}
 use Rattle.std.proofs.lemmas.Bool.Decides.{nat_tests}
-use Rattle.refusals.specs.declared.Refusal.TheVariants.{LedgerSize, TooFewSlots}
+use Rattle.refusals.specs.declared.ledger.LedgerRefusal.TheVariants.{LedgerSize, TooFewSlots}
 use Rattle.ledgers.specs.Sizes.{is_size, size_answer, new_units, new_places}
 
 pub record Limits (units places : ℤ) : Type 0 where

@@ -2,8 +2,8 @@
 use Rattle.std.proofs.Common.{◌≡◌, ℕ, zero, suc, ◌+◌, ◌<◌, Bool, true, false, cond, ◌&&◌, eqb, ltb, List, [], ◌∷◌, ◌++◌, length, set, ℤ, pos, negsuc, Some, None, Ok, Err, Option, Result, sym, refl, ap, ◌∙◌, subst, ⊎_elim, suc-le-suc, le_of_suc-le-suc, not-suc-le-zero, arith}
 use Rattle.std.proofs.lemmas.Bool.Decides.{leb_tells}
 use Rattle.std.specs.List.{slice_get}
-use Rattle.refusals.specs.declared.Refusal.{Refusal}
-use Rattle.refusals.specs.declared.Refusal.TheVariants.{UnknownUnit, ListFull, NotMarkable}
+use Rattle.refusals.specs.declared.ledger.LedgerRefusal.{LedgerRefusal}
+use Rattle.refusals.specs.declared.ledger.LedgerRefusal.TheVariants.{UnknownUnit, ListFull, NotMarkable}
 use Rattle.ledgers.specs.declared.filing.Filing.{Filing}
 use Rattle.ledgers.specs.declared.verdict.Verdict.TheVariants.{Consistent, Capped, PassedOver}
 use Rattle.ledgers.specs.declared.write.Write.{Write}
@@ -34,7 +34,7 @@ where_both true true x o e = (refl, e)
 where_both true false x o e = let z : ◌≡◌ {A = ℕ} 0 1 = cc in absurd (let q : ⊥ = omega arith in q)
 where_both false b x o e = let z : ◌≡◌ {A = ℕ} 0 1 = cc in absurd (let q : ⊥ = omega arith in q)
 
-given_so : {A C : Type 0} (o : Option A) (e : Refusal) (next : A → Result C Refusal) (c : C) → Ok c ≡ given o e next → (a : A) × (o ≡ Some a) × (Ok c ≡ next a)
+given_so : {A C : Type 0} (o : Option A) (e : LedgerRefusal) (next : A → Result C LedgerRefusal) (c : C) → Ok c ≡ given o e next → (a : A) × (o ≡ Some a) × (Ok c ≡ next a)
 given_so None e next c is = let z : ◌≡◌ {A = ℕ} 0 1 = cc in absurd (let q : ⊥ = omega arith in q)
 given_so (Some a) e next c is = (a, refl, is)
 
@@ -43,7 +43,7 @@ nth_inside [] p x e = let z : ◌≡◌ {A = ℕ} 0 1 = cc in absurd (let q : �
 nth_inside (y ∷ ys) zero x e = omega arith
 nth_inside (y ∷ ys) (suc p) x e = suc-le-suc (nth_inside ys p x e)
 
-ok_is : {C : Type 0} (c d : C) → ◌≡◌ {A = Result C Refusal} (Ok c) (Ok d) → c ≡ d
+ok_is : {C : Type 0} (c d : C) → ◌≡◌ {A = Result C LedgerRefusal} (Ok c) (Ok d) → c ≡ d
 ok_is c d e = cc
 
 module _ {B : Type 0} where
@@ -76,7 +76,7 @@ module _ {B : Type 0} where
   add_so : (h : Held B) (o : Option ℕ) (f : Filing B) (w : Write B) → Ok w ≡ given o UnknownUnit (λ u. cond (ltb (length (h.list u)) h.places) (Ok (record { unit = u; place = length (h.list u); filing = f })) (Err ListFull)) → (Some w.unit ≡ o) × (w.place ≡ length (h.list w.unit)) × (w.place < h.places) × (w.filing ≡ f)
   add_so h None f w e = let z : ◌≡◌ {A = ℕ} 0 1 = cc in absurd (let q : ⊥ = omega arith in q)
   add_so h (Some u) f w e =
-      let at : Bool → Result (Write B) Refusal = λ b. cond b (Ok (record { unit = u; place = length (h.list u); filing = f })) (Err ListFull) in
+      let at : Bool → Result (Write B) LedgerRefusal = λ b. cond b (Ok (record { unit = u; place = length (h.list u); filing = f })) (Err ListFull) in
       ⊎_elim
       (λ (t : (ltb (length (h.list u)) h.places ≡ true) × (length (h.list u) < h.places)).
       let is : Ok w ≡ Ok (record { unit = u; place = length (h.list u); filing = f }) = e ∙ ap at t.0 in

@@ -1,8 +1,8 @@
 -- Which sizes a ledger can have, and what it holds when it is new.
 use Rattle.std.specs.Prelude.{◌≡◌, ℕ, zero, suc, ◌*◌, ◌≤◌, Bool, cond, ◌&&◌, ◌⊎◌, [], ℤ, pos, Ok, Err, Result, int_le, nat_le, unsigned_abs, refl}
 use Rattle.std.proofs.Common.{inl, inr, zero-le, suc-le-suc, not-suc-le-zero}
-use Rattle.refusals.specs.declared.Refusal.{Refusal}
-use Rattle.refusals.specs.declared.Refusal.TheVariants.{LedgerSize, TooFewSlots}
+use Rattle.refusals.specs.declared.ledger.LedgerRefusal.{LedgerRefusal}
+use Rattle.refusals.specs.declared.ledger.LedgerRefusal.TheVariants.{LedgerSize, TooFewSlots}
 use Rattle.ledgers.specs.Held.{Held}
 
 -- 1 to 32 units, and 2 to 64 places for each
@@ -10,15 +10,15 @@ abbrev pub is_size : ℤ → ℤ → Bool
 is_size units places = (int_le (pos 1) units && int_le units (pos 32)) && (int_le (pos 2) places && int_le places (pos 64))
 
 -- 1 where the size is none, 2 where there are fewer slots than `each` for every place
-abbrev pub size_answer : ℤ → ℤ → ℕ → ℕ → Result (Unit {0}) Refusal
+abbrev pub size_answer : ℤ → ℤ → ℕ → ℕ → Result (Unit {0}) LedgerRefusal
 size_answer units places each slots = cond (is_size units places) (cond (nat_le (each * (unsigned_abs units * unsigned_abs places)) slots) (Ok tt) (Err TooFewSlots)) (Err LedgerSize)
 
 -- the size of a new ledger: as asked where the check does not refuse it, else of no units and no places
-abbrev pub new_units : ℤ → Result (Unit {0}) Refusal → ℕ
+abbrev pub new_units : ℤ → Result (Unit {0}) LedgerRefusal → ℕ
 new_units units (Ok x) = unsigned_abs units
 new_units units (Err e) = 0
 
-abbrev pub new_places : ℤ → Result (Unit {0}) Refusal → ℕ
+abbrev pub new_places : ℤ → Result (Unit {0}) LedgerRefusal → ℕ
 new_places places (Ok x) = unsigned_abs places
 new_places places (Err e) = 0
 

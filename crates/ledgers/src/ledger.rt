@@ -4,7 +4,7 @@ ghost use Rattle.ledgers.specs.Held.{Held, Bounded, listed, filing_at, head_in, 
 ghost use Rattle.ledgers.specs.Writes.{waiting, add_of, mark_of, place_in, told_of, after_add, after_mark, Wrote};
 
 use crate::filing::Head;
-use refusals::Refusal;
+use refusals::ledger::LedgerRefusal;
 
 // A list of filings for each unit number. Code above it is proved once, for every ledger, against what it holds and the writes that it makes.
 pub trait Ledger<B> {
@@ -43,13 +43,13 @@ pub trait Ledger<B> {
         first: i64,
         last: i64,
         body: B,
-    ) -> Result<i64, Refusal>
+    ) -> Result<i64, LedgerRefusal>
         ensures answer { result ≡ place_in (add_of (held self.old) unit (waiting minute first last body)) }
         ensures after { held self.new ≡ after_add (held self.old) (add_of (held self.old) unit (waiting minute first last body)) }
         ensures wrote { Wrote writes self.old (add_of (held self.old) unit (waiting minute first last body)) self.new };
 
     // Gives a waiting filing its verdict and round.
-    fn mark(&mut self, unit: i64, place: i64, verdict: i64, round: i64) -> Result<(), Refusal>
+    fn mark(&mut self, unit: i64, place: i64, verdict: i64, round: i64) -> Result<(), LedgerRefusal>
         ensures answer { result ≡ told_of (mark_of (held self.old) unit place verdict round) }
         ensures after { held self.new ≡ after_mark (held self.old) (mark_of (held self.old) unit place verdict round) }
         ensures wrote { Wrote writes self.old (mark_of (held self.old) unit place verdict round) self.new };

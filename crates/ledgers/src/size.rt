@@ -1,7 +1,7 @@
 ghost use Rattle.std.specs.Prelude.{◌≡◌, ◌*◌, ◌≤◌};
 ghost use Rattle.ledgers.specs.Sizes.{is_size, size_answer, new_units, new_places};
 
-use refusals::Refusal;
+use refusals::ledger::LedgerRefusal;
 
 // How many units a ledger has, and how many places for each: 1 to 32 and 2 to 64, or none of either.
 #[derive(Clone, Copy)]
@@ -35,14 +35,14 @@ impl Size {
 }
 
 // Whether a ledger can have this size over this many slots, of which it takes `each` for every place: 1 where no ledger has the size, 2 where slots are wanting.
-pub fn check_size(units: i64, places: i64, each: u8, slots: usize) -> Result<(), Refusal>
+pub fn check_size(units: i64, places: i64, each: u8, slots: usize) -> Result<(), LedgerRefusal>
     ensures { result ≡ size_answer units places each slots }
 {
     if !is_size(units, places) {
-        return Err(Refusal::LedgerSize);
+        return Err(LedgerRefusal::LedgerSize);
     }
     if each as usize * (units as usize * places as usize) > slots {
-        return Err(Refusal::TooFewSlots);
+        return Err(LedgerRefusal::TooFewSlots);
     }
     Ok(())
 }

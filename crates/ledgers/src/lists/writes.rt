@@ -5,22 +5,22 @@ use crate::filing::Filing;
 use crate::lists::Lists;
 use crate::number::{below, natural};
 use crate::write::Write;
-use refusals::Refusal;
+use refusals::ledger::LedgerRefusal;
 
 // The write that adds a filing at the end of the unit's list, or the refusal.
 pub fn add_in<B: Copy, L: Lists<B>>(
     lists: &L,
     unit: i64,
     filing: Filing<B>,
-) -> Result<Write<B>, Refusal>
+) -> Result<Write<B>, LedgerRefusal>
     ensures { result ≡ add_of (L.Lists.holds lists.now) unit filing }
 {
     let Some(u) = below(unit, lists.unit_count()) else {
-        return Err(Refusal::UnknownUnit);
+        return Err(LedgerRefusal::UnknownUnit);
     };
     let n = lists.list_length(u);
     if n >= lists.place_count() {
-        return Err(Refusal::ListFull);
+        return Err(LedgerRefusal::ListFull);
     }
     Ok(Write {
         unit: u,
@@ -36,17 +36,17 @@ pub fn mark_in<B: Copy, L: Lists<B>>(
     place: i64,
     verdict: i64,
     round: i64,
-) -> Result<Write<B>, Refusal>
+) -> Result<Write<B>, LedgerRefusal>
     ensures { result ≡ mark_of (L.Lists.holds lists.now) unit place verdict round }
 {
     let Some(u) = below(unit, lists.unit_count()) else {
-        return Err(Refusal::UnknownUnit);
+        return Err(LedgerRefusal::UnknownUnit);
     };
     let Some(p) = natural(place) else {
-        return Err(Refusal::NotMarkable);
+        return Err(LedgerRefusal::NotMarkable);
     };
     let Some(f) = lists.filing(u, p) else {
-        return Err(Refusal::NotMarkable);
+        return Err(LedgerRefusal::NotMarkable);
     };
     match f.judged(verdict, round) {
         Some(g) => Ok(Write {
@@ -54,6 +54,6 @@ pub fn mark_in<B: Copy, L: Lists<B>>(
             place: p,
             filing: g,
         }),
-        None => Err(Refusal::NotMarkable),
+        None => Err(LedgerRefusal::NotMarkable),
     }
 }

@@ -5,7 +5,7 @@ use ledgers::filing::{Filing, Head};
 use ledgers::ledger::Ledger;
 use ledgers::lists::questions::{body_in, head_in, length_in, places_in, units_in};
 use ledgers::lists::writes::{add_in, mark_in};
-use refusals::Refusal;
+use refusals::ledger::LedgerRefusal;
 
 impl<'a, B: Copy> Ledger<B> for Shelf<'a, B> {
     ghost held = { shelved };
@@ -41,13 +41,19 @@ impl<'a, B: Copy> Ledger<B> for Shelf<'a, B> {
         first: i64,
         last: i64,
         body: B,
-    ) -> Result<i64, Refusal> {
+    ) -> Result<i64, LedgerRefusal> {
         let w = add_in(self, unit, Filing::waiting(minute, first, last, body))?;
         self.write(w.unit, w.place, w.filing);
         Ok(w.place as i64)
     }
 
-    fn mark(&mut self, unit: i64, place: i64, verdict: i64, round: i64) -> Result<(), Refusal> {
+    fn mark(
+        &mut self,
+        unit: i64,
+        place: i64,
+        verdict: i64,
+        round: i64,
+    ) -> Result<(), LedgerRefusal> {
         let w = mark_in(self, unit, place, verdict, round)?;
         self.write(w.unit, w.place, w.filing);
         Ok(())

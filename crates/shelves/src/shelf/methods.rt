@@ -6,10 +6,10 @@ ghost use Rattle.shelves.specs.Shelves.{shelved, shelf_writes};
 use crate::shelf::Shelf;
 use ledgers::filing::Filing;
 use ledgers::size::{Size, check_size};
-use refusals::Refusal;
+use refusals::ledger::LedgerRefusal;
 
 // Whether a shelf can have this size over this many slots: 1 where no ledger has the size, 2 where there are fewer slots than units times places.
-pub fn check(units: i64, places: i64, slots: usize) -> Result<(), Refusal>
+pub fn check(units: i64, places: i64, slots: usize) -> Result<(), LedgerRefusal>
     ensures { result ≡ size_answer units places 1 slots }
 {
     check_size(units, places, 1, slots)

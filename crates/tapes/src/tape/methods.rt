@@ -9,10 +9,10 @@ use crate::tape::Tape;
 use ledgers::filing::Filing;
 use ledgers::size::{Size, check_size};
 use ledgers::write::Write;
-use refusals::Refusal;
+use refusals::ledger::LedgerRefusal;
 
 // Whether a tape can have this size over this many slots: 1 where no ledger has the size, 2 where there are fewer slots than twice units times places.
-pub fn check(units: i64, places: i64, slots: usize) -> Result<(), Refusal>
+pub fn check(units: i64, places: i64, slots: usize) -> Result<(), LedgerRefusal>
     ensures { result ≡ size_answer units places 2 slots }
 {
     check_size(units, places, 2, slots)
