@@ -1,7 +1,7 @@
 ghost use Rattle.std.specs.Prelude.{pos, ◌*ℤ◌, neg_ℤ, ◌≤ℤ◌};
 ghost use Rattle.gates.specs.Gates.{cut_at};
 ghost use Rattle.gates.specs.Minutes.{first_minute, end_of, hours};
-ghost use Rattle.std.proofs.Common.{rules, arith};
+ghost use Rattle.std.proofs.Common.{rules};
 
 use crate::gate::Gate;
 
@@ -16,7 +16,7 @@ pub struct CutGate {
 impl Gate for CutGate {
     ghost meaning = { λ g. cut_at g.minute };
 
-    ghost lawful = { first_of (Prim.search rules, Prim.grind (arith, Self.row.coded.inj)) };
+    ghost lawful = { Prim.search rules };
 
     fn admits(&self, minute: i64, _hour: i64) -> bool {
         minute < self.minute
