@@ -111,18 +111,17 @@ fn step_counts(rt: HostRuntime) -> Result<(), Fail> {
     let s = step(1, 0);
     assert!(rt; !admitted(with_steps(&[])?));
     assert!(rt; admitted(with_steps(&[step(250, 0)])?));
-    assert!(rt;
-        admitted(with_steps(&[
-            s,
-            step(2, 0),
-            step(3, 0),
-            step(4, 0),
-            step(5, 0),
-            step(6, 0),
-            step(7, 0),
-            step(250, 0),
-        ],)?,)
-    );
+    let eight = with_steps(&[
+        s,
+        step(2, 0),
+        step(3, 0),
+        step(4, 0),
+        step(5, 0),
+        step(6, 0),
+        step(7, 0),
+        step(250, 0),
+    ])?;
+    assert!(rt; admitted(eight));
     assert!(rt; Steps::of(&[s, s, s, s, s, s, s, s, s]).is_none());
     Ok(())
 }
