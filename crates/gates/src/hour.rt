@@ -7,5 +7,5 @@ pub const HOURS: i64 = 24;
 pub fn is_hour(hour: i64) -> bool
     ensures { Decides result (Hour hour) }
 {
-    1 <= hour && hour <= HOURS
+    (1..=HOURS).contains(&hour)
 }

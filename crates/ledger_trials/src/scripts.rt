@@ -21,7 +21,7 @@ fn answer<B: Copy, L: Ledger<B>>(ledger: &mut L, entry: Entry<B>) -> (u32, i64) 
             body,
         } => match ledger.add(unit, minute, first, last, body) {
             Ok(place) => (0, place),
-            Err(refusal) => (refusal.number(), -1),
+            Err(refusal) => (u32::from(refusal), -1),
         },
         Entry::Mark {
             unit,
@@ -30,7 +30,7 @@ fn answer<B: Copy, L: Ledger<B>>(ledger: &mut L, entry: Entry<B>) -> (u32, i64) 
             round,
         } => match ledger.mark(unit, place, verdict, round) {
             Ok(()) => (0, place),
-            Err(refusal) => (refusal.number(), -1),
+            Err(refusal) => (u32::from(refusal), -1),
         },
     }
 }

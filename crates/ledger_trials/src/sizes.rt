@@ -11,7 +11,7 @@ use tapes::tape::methods::check as check_tape;
 fn number(answer: Result<(), LedgerRefusal>) -> u32 {
     match answer {
         Ok(()) => 0,
-        Err(refusal) => refusal.number(),
+        Err(refusal) => u32::from(refusal),
     }
 }
 
@@ -49,7 +49,7 @@ fn each_limit(rt: HostRuntime) {
 fn made<L: Ledger<i64>>(ledger: &mut L) -> (i64, i64, u32) {
     let refused = match ledger.add(0, 1, 1, 1, 1) {
         Ok(_) => 0,
-        Err(refusal) => refusal.number(),
+        Err(refusal) => u32::from(refusal),
     };
     (ledger.units(), ledger.places(), refused)
 }

@@ -33,18 +33,12 @@ fn cut(at: i64, minute: i64) -> Option<bool> {
 }
 
 fn cut_for(at: i64, minute: i64, hour: i64) -> Option<bool> {
-    match CutGate::at(at) {
-        Ok(gate) => Some(gate.admits(minute, hour)),
-        Err(_) => None,
-    }
+    CutGate::at(at).ok().map(|gate| gate.admits(minute, hour))
 }
 
 // The number with which a cut gate is refused, if it is.
 fn refused(at: i64) -> Option<u32> {
-    match CutGate::at(at) {
-        Ok(_) => None,
-        Err(refusal) => Some(refusal.number()),
-    }
+    CutGate::at(at).err().map(u32::from)
 }
 
 #[test]

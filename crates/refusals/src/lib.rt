@@ -6,18 +6,17 @@ ghost use Rattle.refusals.specs.Numbers.{number_of};
 
 pub mod ledger;
 
-#[derive(Clone, Copy)]
+#[derive(Clone, Copy, Debug, PartialEq, Eq)]
 pub enum Refusal {
-    // 12: a minute outside the range that the call allows.
-    MinuteOutOfRange,
+    // A minute outside the range that the call allows.
+    MinuteOutOfRange = 12,
 }
 
-impl Refusal {
-    pub fn number(self) -> u32
-        ensures { result ≡ number_of self }
-    {
-        match self {
-            Refusal::MinuteOutOfRange => 12,
-        }
+// The number of a refusal.
+impl From<Refusal> for u32 {
+    ghost from_gives = { λ refusal number. number ≡ number_of refusal };
+
+    fn from(refusal: Refusal) -> u32 {
+        refusal as u32
     }
 }

@@ -9,7 +9,7 @@ impl CutGate {
     pub fn at(minute: i64) -> Result<CutGate, Refusal>
         ensures { CutMade minute result }
     {
-        if -10_080 <= minute && minute <= 60 * HOURS {
+        if (-10_080..=60 * HOURS).contains(&minute) {
             Ok(CutGate { minute })
         } else {
             Err(Refusal::MinuteOutOfRange)
