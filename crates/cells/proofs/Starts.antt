@@ -37,15 +37,6 @@ module _ (bs : List ℕ) (from k : ℕ) (among : k < length (cells (drop from bs
   cell_stands : up_to 44 (drop at bs) ≡ get_or (cells line) k []
   cell_stands = sym (parts_first 44 (drop at bs)) ∙ ap (λ cs. get_or cs 0 []) cells_at ∙ grind (arith, get_or-drop)
 
-  -- what stands at a cell's start, up to the next comma, is the cell
-  pub found_cell : (cell : List ℕ) → cell ≡ up_to 44 (drop at bs) → CellAt bs from k at cell
-  found_cell cell told = record {
-    among = among;
-    holds = told ∙ cell_stands;
-    begins = refl;
-    stands = rw told (ap (λ n. take n (drop at bs)) (sym (length-prefix_len _ (drop at bs))));
-  }
-
   -- the next cell begins after the next comma, and without one there is no next cell
   pub start_next : (next : Option ℕ) → next ≡ option_map (λ comma. at + comma + 1) (position (λ b. eqb b 44) (drop at bs)) → next ≡ start_at bs from (k + 1)
   start_next next e =
@@ -71,6 +62,17 @@ start_told bs from k start e = elim (cases_lt k (length (cells (drop from bs))))
   | inl l ↦ (let s : Some (from + start_of (cells (drop from bs)) k) ≡ Some start = sym (cond-true _ _ _ (lt-ltb _ _ l)) ∙ e in (l, cc))
   | inr l ↦ (let s : ◌≡◌ {A = Option ℕ} None (Some start) = sym (cond-false _ _ _ (le-ltb _ _ l)) ∙ e in absurd cc)
 ]
+
+-- what stands at a cell's start, up to the next comma, is the cell
+pub found_cell : (bs : List ℕ) (from k start : ℕ) (cell : List ℕ) → start_at bs from k ≡ Some start → cell ≡ up_to 44 (drop start bs) → CellAt bs from k start cell
+found_cell bs from k start cell e held =
+    let told = start_told bs from k start e in
+    record {
+      among = told.0;
+      holds = held ∙ ap (λ s. up_to 44 (drop s bs)) told.1 ∙ cell_stands bs from k told.0;
+      begins = told.1;
+      stands = rw held (ap (λ n. take n (drop start bs)) (sym (length-prefix_len _ (drop start bs))));
+    }
 
 -- the first cell begins where the line does
 pub start_first : (bs : List ℕ) (from : ℕ) → Some from ≡ start_at bs from 0

@@ -11,7 +11,7 @@ pub fn number(cell: &[u8]) -> Option<i64>
     }
 }
 
-// 1 to 9 digits.
+// 1 to 9 digits. A loop, since the closure of a fold does not know how large the number is so far.
 #[tactic(auto, using(crate::proofs::Numerals::eight_digits))]
 fn natural(digits: &[u8]) -> Option<u32>
     ensures { result ≡ natural_of digits.now }
