@@ -3,9 +3,9 @@ use Rattle.std.proofs.Common.{◌≡◌, ℕ, zero, suc, ◌+◌, ◌<◌, ◌�
 use Rattle.std.proofs.lemmas.List.{drop-drop}
 use Rattle.std.proofs.lemmas.List.Sums.{sum_by-cons, sum_by_more}
 use Rattle.std.proofs.lemmas.List.Folds.{length-prefix_len}
-use Rattle.std.proofs.lemmas.Bool.{cases_lt, cond-true, cond-false, lt-ltb, le-ltb}
+use Rattle.std.proofs.lemmas.Bool.{cases_lt, cond_below, cond_above}
 use Rattle.cells.specs.Parts.{up_to, cells, start_of, start_at, CellAt}
-use Rattle.cells.proofs.Cuts.{first_mark, parts_first, parts_more, parts_last}
+use Rattle.cells.proofs.Cuts.{first_mark, parts_first, parts_more, parts_last, position_some, position_none}
 use Rattle.cells.proofs.Rejoined.{parts_some}
 
 -- from where a cell begins on, the line has that cell and those after it
@@ -22,6 +22,13 @@ cells_on line (suc k) l = elim (cases_lt (first_mark 44 line) (length line)) [
       (ap cells past ∙ cells_on rest k (omega (arith, ap length more))))
   | inr h ↦ absurd (omega (arith, ap length (parts_last 44 line h)))
 ]
+
+-- a start is told exactly where the line has the cell
+start_some : (bs : List ℕ) (from k : ℕ) → k < length (cells (drop from bs)) → start_at bs from k ≡ Some (from + start_of (cells (drop from bs)) k)
+start_some bs from k l = sym (cond_below _ _ _ _ l)
+
+start_none : (bs : List ℕ) (from k : ℕ) → length (cells (drop from bs)) ≤ k → start_at bs from k ≡ None
+start_none bs from k l = sym (cond_above _ _ _ _ _ l refl)
 
 module _ (bs : List ℕ) (from k : ℕ) (among : k < length (cells (drop from bs))) where
   abbrev line : List ℕ
@@ -49,18 +56,18 @@ module _ (bs : List ℕ) (from k : ℕ) (among : k < length (cells (drop from bs
             let l : k + 1 < length (cells line) = omega arith in
             let long : length (get_or (cells line) k []) ≡ first_mark 44 here = ap length (sym cell_stands) ∙ length-prefix_len _ here in
             let i : at + first_mark 44 here + 1 ≡ from + start_of (cells line) (k + 1) = omega (arith, sum_by_more (λ c. length c + 1) (cells line) k [] among) in
-            e ∙ ap (option_map (λ comma. at + comma + 1)) (cond-true _ _ _ (lt-ltb _ _ h)) ∙ ap Some i ∙ sym (cond-true _ _ _ (lt-ltb _ _ l)))
+            e ∙ ap (option_map (λ comma. at + comma + 1)) (position_some 44 here h) ∙ ap Some i ∙ sym (start_some bs from (k + 1) l))
         | inr h ↦ (
             let last = ap length (sym cells_at ∙ parts_last 44 here h) in
             let l : length (cells line) ≤ k + 1 = omega arith in
-            e ∙ ap (option_map (λ comma. at + comma + 1)) (cond-false _ _ _ (le-ltb _ _ h)) ∙ sym (cond-false _ _ _ (le-ltb _ _ l)))
+            e ∙ ap (option_map (λ comma. at + comma + 1)) (position_none 44 here h) ∙ sym (start_none bs from (k + 1) l))
       ]
 
 -- a start that is told is that of a cell
-pub start_told : (bs : List ℕ) (from k start : ℕ) → start_at bs from k ≡ Some start → (k < length (cells (drop from bs))) × (start ≡ from + start_of (cells (drop from bs)) k)
+start_told : (bs : List ℕ) (from k start : ℕ) → start_at bs from k ≡ Some start → (k < length (cells (drop from bs))) × (start ≡ from + start_of (cells (drop from bs)) k)
 start_told bs from k start e = elim (cases_lt k (length (cells (drop from bs)))) [
-  | inl l ↦ (let s : Some (from + start_of (cells (drop from bs)) k) ≡ Some start = sym (cond-true _ _ _ (lt-ltb _ _ l)) ∙ e in (l, cc))
-  | inr l ↦ (let s : ◌≡◌ {A = Option ℕ} None (Some start) = sym (cond-false _ _ _ (le-ltb _ _ l)) ∙ e in absurd cc)
+  | inl l ↦ (let s = sym (start_some bs from k l) ∙ e in (l, cc))
+  | inr l ↦ (let s = sym (start_none bs from k l) ∙ e in absurd cc)
 ]
 
 -- what stands at a cell's start, up to the next comma, is the cell
@@ -76,13 +83,13 @@ found_cell bs from k start cell e held =
 
 -- the first cell begins where the line does
 pub start_first : (bs : List ℕ) (from : ℕ) → Some from ≡ start_at bs from 0
-start_first bs from = let e : from ≡ from + 0 = omega arith in ap Some e ∙ sym (cond-true _ _ _ (lt-ltb _ _ (parts_some 44 (drop from bs))))
+start_first bs from = let e : from ≡ from + 0 = omega arith in ap Some e ∙ sym (start_some bs from 0 (parts_some 44 (drop from bs)))
 
 -- from start to start
 pub start_more : (bs : List ℕ) (from k : ℕ) (this next : Option ℕ) → this ≡ start_at bs from k → MatchOption this (next ≡ None) (λ at. next ≡ option_map (λ comma. at + comma + 1) (position (λ b. eqb b 44) (drop at bs))) → next ≡ start_at bs from (k + 1)
 start_more bs from k None next e h = elim (cases_lt k (length (cells (drop from bs)))) [
-  | inl l ↦ (let s : ◌≡◌ {A = Option ℕ} None (Some (from + start_of (cells (drop from bs)) k)) = e ∙ cond-true _ _ _ (lt-ltb _ _ l) in absurd cc)
-  | inr l ↦ (let m : length (cells (drop from bs)) ≤ k + 1 = omega arith in h ∙ sym (cond-false _ _ _ (le-ltb _ _ m)))
+  | inl l ↦ (let s = e ∙ start_some bs from k l in absurd cc)
+  | inr l ↦ h ∙ sym (start_none bs from (k + 1) (omega arith))
 ]
 start_more bs from k (Some at) next e h =
     let told = start_told bs from k at (sym e) in
