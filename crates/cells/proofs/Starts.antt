@@ -1,97 +1,96 @@
--- Where the cells of a line begin: the loop that finds them, turn by turn.
-use Rattle.std.proofs.Common.{◌≡◌, ℕ, zero, suc, ◌+◌, ◌-◌, ◌<◌, ◌≤◌, ◌≢◌, List, [], ◌∷◌, ◌++◌, length, get_or, drop, set, replicate, sym, refl, ap, ◌∙◌, subst, inl, inr, append_assoc, add-one, arith, length-append}
-use Rattle.std.proofs.lemmas.List.{length-drop, drop-drop, length_push, length-set, length-replicate, get_or-set_same, get_or-set_other, get_or-replicate}
-use Rattle.std.proofs.lemmas.Bool.{cases_lt}
-use Rattle.cells.specs.Parts.{up_to, after, cells, start_of, CellAt}
-use Rattle.cells.proofs.Cuts.{after_is, parts_more, cells_last}
-use Rattle.cells.proofs.Feeds.{up_to_front}
+-- Where the cells of a line begin.
+use Rattle.std.proofs.Common.{◌≡◌, ℕ, zero, suc, ◌+◌, ◌<◌, ◌≤◌, List, [], ◌∷◌, length, get_or, take, drop, sym, refl, ap, ◌∙◌, subst, inl, inr, arith, get_or-drop, eqb, Option, Some, None, option_map, MatchOption, position, length-drop}
+use Rattle.std.proofs.lemmas.List.{drop-drop}
+use Rattle.std.proofs.lemmas.List.Sums.{sum_by-cons, sum_by_more}
+use Rattle.std.proofs.lemmas.List.Folds.{length-prefix_len}
+use Rattle.std.proofs.lemmas.Bool.{cases_lt, cond_below, cond_above}
+use Rattle.cells.specs.Parts.{up_to, cells, start_of, start_at, CellAt}
+use Rattle.cells.proofs.Cuts.{first_mark, parts_first, parts_more, parts_last, position_some, position_none}
+use Rattle.cells.proofs.Rejoined.{parts_some}
 
--- a cell begins after the one before it and its comma
-start_more : (before : List (List ℕ)) (cell : List ℕ) (rest : List (List ℕ)) → start_of (before ++ (cell ∷ rest)) (length before + 1) ≡ start_of (before ++ (cell ∷ rest)) (length before) + (length cell + 1)
-start_more [] cell rest = omega arith
-start_more (c ∷ before) cell rest = rw add-one (omega (arith, rw add-one at (start_more before cell rest)))
-
--- count cells have begun, the last of them at `at`; the starts of the first n are kept
-pub record Cutting (bs : List ℕ) (from n : ℕ) (starts : List ℕ) (count at : ℕ) : Type 0 where
-  pub before : List (List ℕ)
-  pub split : cells (drop from bs) ≡ before ++ cells (drop at bs)
-  pub counted : count ≡ length before + 1
-  pub begins : at ≡ from + start_of (cells (drop from bs)) (length before)
-  pub few : count ≤ at - from + 1
-  pub long : length starts ≡ n
-  pub kept : (k : ℕ) → k < count → k < n → get_or starts k 0 ≡ from + start_of (cells (drop from bs)) k
-
-pub cutting_none : (bs : List ℕ) (from n : ℕ) → Cutting bs from n (replicate n from) 1 from
-cutting_none bs from n = record {
-  before = [];
-  split = refl;
-  counted = refl;
-  begins = omega arith;
-  few = omega arith;
-  long = length-replicate n from;
-  kept = λ k a b. (let z : k ≡ 0 = omega arith in get_or-replicate n k from 0 b ∙ rw z (omega arith));
-}
-
-module _ (bs : List ℕ) (from n : ℕ) (starts : List ℕ) (count at : ℕ) (h : Cutting bs from n starts count at) where
-  -- one cell more, past the comma that ends the one at `at`
-  pub cutting_more : (next : ℕ) → next ≡ at + length (up_to 44 (drop at bs)) + 1 → next ≤ length bs → Cutting bs from n (set starts count next) (count + 1) next
-  cutting_more next e l =
-      let cs = cells (drop from bs) in
-      let u = up_to 44 (drop at bs) in
-      let rest = cells (drop next bs) in
-      let inside : length u < length (drop at bs) = rw length-drop (omega arith) in
-      let here : after 44 (drop at bs) ≡ drop next bs = after_is 44 (drop at bs) ∙ drop-drop (length u + 1) at bs ∙ ap (λ k. drop k bs) (omega arith) in
-      let one : cells (drop at bs) ≡ (u ∷ rest) = parts_more ([] ∷ []) 44 (drop at bs) inside ∙ ap (λ l. u ∷ cells l) here in
-      let cut : cs ≡ h.before ++ (u ∷ rest) = h.split ∙ ap (λ l. h.before ++ l) one in
-      let step : start_of cs (length h.before + 1) ≡ start_of cs (length h.before) + (length u + 1) = rw cut (start_more h.before u rest) in
-      let more : start_of cs count ≡ start_of cs (length h.before) + (length u + 1) = ap (start_of cs) h.counted ∙ step in
-      record {
-        before = h.before ++ (u ∷ []);
-        split = cut ∙ sym (append_assoc h.before (u ∷ []) rest);
-        counted = omega (arith, h.counted, length_push h.before u);
-        begins = rw (length_push h.before u) (omega (arith, step, h.begins));
-        few = omega (arith, h.few);
-        long = length-set starts count next ∙ h.long;
-        kept = λ k a b. elim (cases_lt k count) [
-          | inl lower ↦ (let ne : k ≢ count = omega arith in get_or-set_other starts count k next 0 ne ∙ h.kept k lower b)
-          | inr upper ↦ (let z : k ≡ count = omega arith in let room : count < length starts = omega (arith, h.long) in rw (z, get_or-set_same starts count next 0 room) (omega (arith, more, h.begins)))
-        ];
-      }
-
-  -- no comma is left, so the cell at `at` is the last
-  pub cutting_all : length (drop at bs) ≤ length (up_to 44 (drop at bs)) → count ≡ length (cells (drop from bs))
-  cutting_all l =
-      let last = ap length (cells_last (drop at bs) l) in
-      omega (arith, h.counted, ap length h.split ∙ length-append h.before (cells (drop at bs)), last)
-
--- the first cell is what stands before the first comma
-cell_first : (line : List ℕ) → get_or (cells line) 0 [] ≡ up_to 44 line
-cell_first line = elim (cases_lt (length (up_to 44 line)) (length line)) [
-  | inl h ↦ ap (λ l. get_or l 0 []) (parts_more ([] ∷ []) 44 line h)
-  | inr h ↦ ap (λ l. get_or l 0 []) (cells_last line h)
-]
-
--- each cell stands where it begins, up to the next comma
-in_line : (line : List ℕ) (k : ℕ) → k < length (cells line) → up_to 44 (drop (start_of (cells line) k) line) ≡ get_or (cells line) k []
-in_line line zero l = sym (cell_first line)
-in_line line (suc k) l = elim (cases_lt (length (up_to 44 line)) (length line)) [
+-- from where a cell begins on, the line has that cell and those after it
+cells_on : (line : List ℕ) (k : ℕ) → k < length (cells line) → cells (drop (start_of (cells line) k) line) ≡ drop k (cells line)
+cells_on line zero l = refl
+cells_on line (suc k) l = elim (cases_lt (first_mark 44 line) (length line)) [
   | inl h ↦ (
-      let more = parts_more ([] ∷ []) 44 line h in
-      let past : drop (start_of (up_to 44 line ∷ cells (after 44 line)) (suc k)) line ≡ drop (start_of (cells (after 44 line)) k) (after 44 line) =
-      sym (drop-drop (start_of (cells (after 44 line)) k) (length (up_to 44 line) + 1) line) ∙ ap (drop (start_of (cells (after 44 line)) k)) (sym (after_is 44 line)) in
-      subst (λ cs. up_to 44 (drop (start_of cs (suc k)) line) ≡ get_or cs (suc k) []) (sym more)
-      (ap (up_to 44) past ∙ in_line (after 44 line) k (omega (arith, ap length more))))
-  | inr h ↦ absurd (omega (arith, ap length (cells_last line h)))
+      let c = up_to 44 line in
+      let rest = drop (length c + 1) line in
+      let more : cells line ≡ c ∷ cells rest = parts_more 44 line h in
+      let past : drop (start_of (c ∷ cells rest) (suc k)) line ≡ drop (start_of (cells rest) k) rest =
+      ap (λ n. drop n line) (sum_by-cons (λ p. length p + 1) c (take k (cells rest))) ∙ sym (drop-drop (start_of (cells rest) k) (length c + 1) line) in
+      subst (λ cs. cells (drop (start_of cs (suc k)) line) ≡ drop (suc k) cs) (sym more)
+      (ap cells past ∙ cells_on rest k (omega (arith, ap length more))))
+  | inr h ↦ absurd (omega (arith, ap length (parts_last 44 line h)))
 ]
 
-cell_stands : (bs : List ℕ) (from k : ℕ) → k < length (cells (drop from bs)) → up_to 44 (drop (from + start_of (cells (drop from bs)) k) bs) ≡ get_or (cells (drop from bs)) k []
-cell_stands bs from k l = ap (up_to 44) (sym (drop-drop (start_of (cells (drop from bs)) k) from bs)) ∙ in_line (drop from bs) k l
+-- a start is told exactly where the line has the cell
+start_some : (bs : List ℕ) (from k : ℕ) → k < length (cells (drop from bs)) → start_at bs from k ≡ Some (from + start_of (cells (drop from bs)) k)
+start_some bs from k l = sym (cond_below _ _ _ _ l)
+
+start_none : (bs : List ℕ) (from k : ℕ) → length (cells (drop from bs)) ≤ k → start_at bs from k ≡ None
+start_none bs from k l = sym (cond_above _ _ _ _ _ l refl)
+
+module _ (bs : List ℕ) (from k : ℕ) (among : k < length (cells (drop from bs))) where
+  abbrev line : List ℕ
+  line = drop from bs
+
+  abbrev at : ℕ
+  at = from + start_of (cells line) k
+
+  cells_at : cells (drop at bs) ≡ drop k (cells line)
+  cells_at = ap cells (sym (drop-drop (start_of (cells line) k) from bs)) ∙ cells_on line k among
+
+  -- each cell stands where it begins, up to the next comma
+  cell_stands : up_to 44 (drop at bs) ≡ get_or (cells line) k []
+  cell_stands = sym (parts_first 44 (drop at bs)) ∙ ap (λ cs. get_or cs 0 []) cells_at ∙ grind (arith, get_or-drop)
+
+  -- the next cell begins after the next comma, and without one there is no next cell
+  pub start_next : (next : Option ℕ) → next ≡ option_map (λ comma. at + comma + 1) (position (λ b. eqb b 44) (drop at bs)) → next ≡ start_at bs from (k + 1)
+  start_next next e =
+      let here = drop at bs in
+      let left = length-drop k (cells line) in
+      elim (cases_lt (first_mark 44 here) (length here)) [
+        | inl h ↦ (
+            let more = ap length (sym cells_at ∙ parts_more 44 here h) in
+            let some = parts_some 44 (drop (length (up_to 44 here) + 1) here) in
+            let l : k + 1 < length (cells line) = omega arith in
+            let long : length (get_or (cells line) k []) ≡ first_mark 44 here = ap length (sym cell_stands) ∙ length-prefix_len _ here in
+            let i : at + first_mark 44 here + 1 ≡ from + start_of (cells line) (k + 1) = omega (arith, sum_by_more (λ c. length c + 1) (cells line) k [] among) in
+            e ∙ ap (option_map (λ comma. at + comma + 1)) (position_some 44 here h) ∙ ap Some i ∙ sym (start_some bs from (k + 1) l))
+        | inr h ↦ (
+            let last = ap length (sym cells_at ∙ parts_last 44 here h) in
+            let l : length (cells line) ≤ k + 1 = omega arith in
+            e ∙ ap (option_map (λ comma. at + comma + 1)) (position_none 44 here h) ∙ sym (start_none bs from (k + 1) l))
+      ]
+
+-- a start that is told is that of a cell
+start_told : (bs : List ℕ) (from k start : ℕ) → start_at bs from k ≡ Some start → (k < length (cells (drop from bs))) × (start ≡ from + start_of (cells (drop from bs)) k)
+start_told bs from k start e = elim (cases_lt k (length (cells (drop from bs)))) [
+  | inl l ↦ (let s = sym (start_some bs from k l) ∙ e in (l, cc))
+  | inr l ↦ (let s = sym (start_none bs from k l) ∙ e in absurd cc)
+]
 
 -- what stands at a cell's start, up to the next comma, is the cell
-pub found_cell : (bs : List ℕ) (from k start at : ℕ) (cell : List ℕ) → k < length (cells (drop from bs)) → start ≡ from + start_of (cells (drop from bs)) k → at ≡ start → cell ≡ up_to 44 (drop start bs) → CellAt bs from k at cell
-found_cell bs from k start at cell among begins place told = record {
-  among = among;
-  holds = told ∙ ap (λ s. up_to 44 (drop s bs)) begins ∙ cell_stands bs from k among;
-  begins = place ∙ begins;
-  stands = rw (place, told) (up_to_front 44 (drop start bs));
-}
+pub found_cell : (bs : List ℕ) (from k start : ℕ) (cell : List ℕ) → start_at bs from k ≡ Some start → cell ≡ up_to 44 (drop start bs) → CellAt bs from k start cell
+found_cell bs from k start cell e held =
+    let told = start_told bs from k start e in
+    record {
+      among = told.0;
+      holds = held ∙ ap (λ s. up_to 44 (drop s bs)) told.1 ∙ cell_stands bs from k told.0;
+      begins = told.1;
+      stands = rw held (ap (λ n. take n (drop start bs)) (sym (length-prefix_len _ (drop start bs))));
+    }
+
+-- the first cell begins where the line does
+pub start_first : (bs : List ℕ) (from : ℕ) → Some from ≡ start_at bs from 0
+start_first bs from = let e : from ≡ from + 0 = omega arith in ap Some e ∙ sym (start_some bs from 0 (parts_some 44 (drop from bs)))
+
+-- from start to start
+pub start_more : (bs : List ℕ) (from k : ℕ) (this next : Option ℕ) → this ≡ start_at bs from k → MatchOption this (next ≡ None) (λ at. next ≡ option_map (λ comma. at + comma + 1) (position (λ b. eqb b 44) (drop at bs))) → next ≡ start_at bs from (k + 1)
+start_more bs from k None next e h = elim (cases_lt k (length (cells (drop from bs)))) [
+  | inl l ↦ (let s = e ∙ start_some bs from k l in absurd cc)
+  | inr l ↦ h ∙ sym (start_none bs from (k + 1) (omega arith))
+]
+start_more bs from k (Some at) next e h =
+    let told = start_told bs from k at (sym e) in
+    start_next bs from k told.0 next (rw told.1 at h)

@@ -1,27 +1,21 @@
 -- What tells the cells of a line and the lines of a file: put together again they are the bytes.
-use Rattle.std.specs.Prelude.{◌≡◌, ℕ, ◌-◌, ◌<◌, ◌⊎◌, List, [], ◌∷◌, ◌++◌, length, ◌≢◌, slice_index, slice_index_or}
+use Rattle.std.specs.Prelude.{◌≡◌, ℕ, ◌-◌, ◌<◌, ◌⊎◌, List, [], ◌∷◌, ◌++◌, length, ◌≢◌, slice_index_or, All}
+use Rattle.std.specs.List.{join_with_byte, flat_map}
 use Rattle.cells.specs.Parts.{cells, lines}
 
 -- the byte stands in none of the parts
 abbrev pub NoneHas : ℕ → List (List ℕ) → Type 0
-NoneHas byte ps = (i : ℕ) → i < length ps → (k : ℕ) → k < length (slice_index_or ps i []) → slice_index (slice_index_or ps i []) k ≢ byte
-
--- the cells with one comma between neighbours
-abbrev pub with_commas : List (List ℕ) → List ℕ
-with_commas [] = []
-with_commas (c ∷ []) = c
-with_commas (c ∷ (d ∷ cs)) = c ++ (44 ∷ with_commas (d ∷ cs))
+NoneHas byte ps = All (All (λ b. b ≢ byte)) ps
 
 -- cs are the cells of a line: at least one, none with a comma, and joined with commas they are the line
 pub record Cells (line : List ℕ) (cs : List (List ℕ)) : Type 0 where
   pub some : 0 < length cs
   pub plain : NoneHas 44 cs
-  pub whole : with_commas cs ≡ line
+  pub whole : join_with_byte 44 cs ≡ line
 
 -- the lines, each with a line feed after it
 abbrev pub ended : List (List ℕ) → List ℕ
-ended [] = []
-ended (l ∷ ls) = l ++ (10 ∷ ended ls)
+ended ls = flat_map (λ l. l ++ (10 ∷ [])) ls
 
 -- ls are the lines of a file: none has a line feed, and each with a line feed after it they are the bytes,
 -- or the bytes and one line feed more, where the last line is not empty

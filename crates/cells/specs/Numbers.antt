@@ -1,14 +1,7 @@
 -- The number that a cell holds.
-use Rattle.std.specs.Prelude.{◌≡◌, ℕ, ◌+◌, ◌-◌, ◌*◌, ◌^◌, ◌<◌, Bool, true, cond, ◌&&◌, List, [], ◌∷◌, length, ℤ, pos, neg_ℤ, Some, None, decimal, Option, ◌==◌, nat_le}
+use Rattle.std.specs.Prelude.{◌≡◌, ℕ, ◌+◌, ◌-◌, ◌*◌, ◌^◌, ◌<◌, Bool, cond, ◌&&◌, List, [], ◌∷◌, length, ℤ, pos, neg_ℤ, Some, None, decimal, Option, ◌==◌, nat_le}
 use Rattle.std.specs.Option.{option_map}
-
--- the bytes from '0' (48) to '9' (57)
-abbrev pub is_digit : ℕ → Bool
-is_digit b = nat_le 48 b && nat_le b 57
-
-abbrev pub all_digits : List ℕ → Bool
-all_digits [] = true
-all_digits (b ∷ bs) = is_digit b && all_digits bs
+use Rattle.std.specs.Str.{all_ascii_digits}
 
 -- the number that decimal digits write after the digits of n
 abbrev pub value_after : ℕ → List ℕ → ℕ
@@ -17,7 +10,7 @@ value_after n (b ∷ bs) = value_after (n * 10 + (b - 48)) bs
 
 -- 1 to 9 digits
 abbrev pub is_numeral : List ℕ → Bool
-is_numeral bs = (nat_le 1 (length bs) && nat_le (length bs) 9) && all_digits bs
+is_numeral bs = (nat_le 1 (length bs) && nat_le (length bs) 9) && all_ascii_digits bs
 
 abbrev pub natural_of : List ℕ → Option ℕ
 natural_of bs = cond (is_numeral bs) (Some (value_after 0 bs)) None

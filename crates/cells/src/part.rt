@@ -1,8 +1,8 @@
-ghost use Rattle.std.specs.Prelude.{◌≡◌, ℕ, ◌+◌, ◌<◌, ◌≤◌, length, drop, MatchOption, ◌≢◌, slice_index};
+ghost use Rattle.std.specs.Prelude.{◌≡◌, ◌==◌, drop, position};
 ghost use Rattle.cells.specs.Parts.{up_to};
 
 // A part of the caller's bytes, with its offset in them.
-#[derive(Clone, Copy)]
+#[derive(Debug, Clone, Copy, PartialEq, Eq)]
 pub struct Part<'a> {
     pub bytes: &'a [u8],
     pub at: usize,
@@ -13,42 +13,24 @@ pub fn part_at<'a>(bytes: &'a [u8], from: usize, mark: u8) -> Part<'a>
     ensures place { result.at ≡ from }
     ensures bytes { result.bytes.now ≡ up_to mark (drop from bytes.now) }
 {
+    let rest = rest_from(bytes, from);
+    let end = find(rest, mark).unwrap_or(rest.len());
     Part {
-        bytes: up_to(bytes, from, mark),
+        bytes: &rest[..end],
         at: from,
     }
 }
 
-fn up_to<'a>(bytes: &'a [u8], from: usize, mark: u8) -> &'a [u8]
-    ensures { result.now ≡ up_to mark (drop from bytes.now) }
+// All that stands from `from` on.
+pub(crate) fn rest_from<'a>(bytes: &'a [u8], from: usize) -> &'a [u8]
+    ensures { result.now ≡ drop from bytes.now }
 {
-    let rest = &bytes[from.min(bytes.len())..];
-    let n = length_up_to(rest, mark);
-    &rest[0..n]
+    bytes.get(from..).unwrap_or(b"")
 }
 
-// How many bytes stand before the first `mark`.
-fn length_up_to(bytes: &[u8], mark: u8) -> usize
-    ensures within { result ≤ length bytes.now }
-    ensures before { (k : ℕ) → k < result → slice_index bytes.now k ≢ mark }
-    ensures stops { result < length bytes.now → slice_index bytes.now result ≡ mark }
+// Where the first `mark` stands, if there is one.
+pub(crate) fn find(bytes: &[u8], mark: u8) -> Option<usize>
+    ensures { result ≡ position (λ b. b == mark) bytes.now }
 {
-    for (i, b) in bytes.iter().enumerate() {
-        if *b == mark {
-            return i;
-        }
-    }
-    bytes.len()
-}
-
-// Where the next cell begins after the one at `at`, if there is one.
-pub(crate) fn next_start(bytes: &[u8], at: usize) -> Option<usize>
-    ensures { MatchOption result (length (drop at bytes.now) ≤ length (up_to 44 (drop at bytes.now))) (λ next. (next ≡ at + length (up_to 44 (drop at bytes.now)) + 1) × (next ≤ length bytes.now)) }
-{
-    let end = at + part_at(bytes, at, b',').bytes.len();
-    if end < bytes.len() {
-        Some(end + 1)
-    } else {
-        None
-    }
+    bytes.iter().position(|b| *b == mark)
 }

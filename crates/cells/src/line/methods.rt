@@ -1,10 +1,10 @@
-ghost use Rattle.std.specs.Prelude.{◌≡◌, ◌≤◌, ◌⊎◌, length, drop, MatchOption, slice_set};
+ghost use Rattle.std.specs.Prelude.{◌≡◌, ◌+◌, ◌≤◌, ◌⊎◌, ◌==◌, length, drop, position, option_map, MatchOption};
 ghost use Rattle.cells.specs.Cut.{line_in};
 ghost use Rattle.cells.specs.Laws.{CellsAreSo};
 ghost use Rattle.cells.specs.Parts.{cells, CellAt};
 
 use crate::line::CutLine;
-use crate::part::{Part, next_start, part_at};
+use crate::part::{Part, find, part_at, rest_from};
 
 impl<'a, const N: usize> CutLine<'a, N> {
     // Cuts what stands from `from` on, to the end of `bytes`.
@@ -14,19 +14,17 @@ impl<'a, const N: usize> CutLine<'a, N> {
         ensures from { result.from ≡ from }
         ensures so { CellsAreSo }
     {
-        let mut starts = [from; N];
-        let mut count = 1;
-        let mut at = from;
-        while let Some(next) = next_start(bytes, at) {
-            starts = kept(starts, count, next);
-            count += 1;
-            at = next;
+        let mut starts = [None; N];
+        let mut next = Some(from);
+        for start in &mut starts {
+            *start = next;
+            next = next.and_then(|at| start_after(bytes, at));
         }
         CutLine {
             bytes,
             from,
             starts,
-            count,
+            count: rest_from(bytes, from).split(|b| *b == b',').count(),
         }
     }
 
@@ -41,20 +39,14 @@ impl<'a, const N: usize> CutLine<'a, N> {
     pub fn cell(&self, k: usize) -> Option<Part<'a>>
         ensures { MatchOption result ((N ≤ k) ⊎ (length (cells (line_in self.now)) ≤ k)) (λ p. CellAt self.now.bytes.now self.now.from k p.at p.bytes.now) }
     {
-        if k < N && k < self.count {
-            Some(part_at(self.bytes, self.starts[k], b','))
-        } else {
-            None
-        }
+        let start = self.starts.get(k).copied().flatten()?;
+        Some(part_at(self.bytes, start, b','))
     }
 }
 
-// The starts with one more, where there is room for it.
-fn kept<const N: usize>(mut starts: [usize; N], k: usize, at: usize) -> [usize; N]
-    ensures { result ≡ slice_set starts.entry k at }
+// Where the next cell begins after the one at `at`, if there is one.
+fn start_after(bytes: &[u8], at: usize) -> Option<usize>
+    ensures { result ≡ option_map (λ comma. at + comma + 1) (position (λ b. b == 44) (drop at bytes.now)) }
 {
-    if k < N {
-        starts[k] = at;
-    }
-    starts
+    find(rest_from(bytes, at), b',').map(|comma| at + comma + 1)
 }

@@ -1,27 +1,29 @@
-use Rattle.std.proofs.Common.{◌+◌, sym, refl, subst, arith}
+use Rattle.std.proofs.Common.{length, ap, ◌∙◌, eqb, arith, rules, tests}
+use Rattle.std.proofs.lemmas.Iterator.Consumers.{count_from_yields_List}
+use Rattle.std.proofs.lemmas.Iterator.Splits.{YieldsList-from_slice_split}
+use Rattle.cells.specs.Parts.{cells}
 use Rattle.cells.proofs.Rejoined.{cells_are_so}
-use Rattle.cells.proofs.Starts.{Cutting, cutting_none, cutting_more, cutting_all}
+use Rattle.cells.proofs.Starts.{start_first, start_more}
+use Rattle.std.proofs.lemmas.List.{length-replicate}
+use Rattle.std.proofs.lemmas.Grind.{common_steps}
 use Rattle.cells.proofs.line.CutLine.cut.Goals as goal
 
-pub loop-next-init : goal.loop-next-init
-loop-next-init g c = cutting_none c.args.bytes.now c.args.from g.row.N
+pub invariant_of-result-clause-counted : goal.invariant_of-result-clause-counted
+invariant_of-result-clause-counted g c =
+    count_from_yields_List _ _ c.count.ensures.ran
+    (YieldsList-from_slice_split _ (λ b. eqb b 44) c.rest_from.result.now c.split.ensures.rest c.split.ensures.done c.split.ensures.closure (λ x b q k. search (rules, tests)))
+    ∙ ap (λ l. length (cells l)) c.rest_from.ensures
 
-pub overflow_add-count : goal.overflow_add-count
-overflow_add-count g c = omega (arith, c.well_formed, c.loop-next.invariant.few, c.in-Some.ensures)
+pub loop-start-init : goal.loop-start-init
+loop-start-init g c = (length-replicate _ _, start_first c.args.bytes.now c.args.from, λ k l. absurd (omega arith))
 
-pub loop-next-smaller : goal.loop-next-smaller
-loop-next-smaller g c = omega (arith, c.in-Some.ensures)
+pub loop-start-preserved : goal.loop-start-preserved
+loop-start-preserved g c =
+    let inv = c.loop-start.invariant in (
+      search rules,
+      start_more c.args.bytes.now c.args.from c.loop-start.start-index _ _ inv.1 (search rules),
+      λ k l. grind (arith, common_steps, inv.1, inv.2 k),
+    )
 
-pub loop-next-preserved : goal.loop-next-preserved
-loop-next-preserved g c =
-    let told = c.in-Some.ensures in
-    let more = cutting_more _ _ _ _ _ _ c.loop-next.invariant c.in-Some.next told.0 told.1 in
-    subst (λ l. Cutting c.args.bytes.now c.args.from g.row.N l (c.loop-next.count + 1) c.in-Some.next) (sym c.kept-starts.ensures) more
-
-pub invariant_of-result : goal.invariant_of-result
-invariant_of-result g c =
-    let inv = c.loop-next.invariant in
-    record { counted = cutting_all _ _ _ _ _ _ inv c.in_default.ensures; long = inv.long; begin = inv.kept }
-
-pub returns : goal.returns
-returns g c = record { line = refl; bytes = refl; from = refl; so = cells_are_so }
+pub returns-clause-so : goal.returns-clause-so
+returns-clause-so g c = cells_are_so

@@ -1,9 +1,9 @@
-use Rattle.std.proofs.Common.{◌+◌, ◌-◌, length}
-use Rattle.cells.proofs.Starts.{Cutting}
+use Rattle.std.proofs.Common.{◌≡◌, ℕ, ◌<◌, length, get_or, None}
+use Rattle.cells.specs.Parts.{start_at}
 use Rattle.cells.proofs.line.CutLine.cut.Given as goal
 
-abbrev pub invariant-loop-next : goal.invariant-loop-next
-invariant-loop-next g l = Cutting l.bytes l.from g.row.N l.starts l.count l.at
-
-abbrev pub decreases-loop-next : goal.decreases-loop-next
-decreases-loop-next g l = length l.bytes + 1 - l.at
+abbrev pub invariant-loop-start : goal.invariant-loop-start
+invariant-loop-start g l =
+    (length l.start-items ≡ g.row.N)
+    × (l.next ≡ start_at l.bytes l.from l.start-index)
+    × ((k : ℕ) → k < l.start-index → get_or l.start-items k None ≡ start_at l.bytes l.from k)
