@@ -1,14 +1,19 @@
 -- The names of a line, one after the other.
-use Rattle.std.proofs.Common.{◌≡◌, ℕ, ◌+◌, ◌<◌, ◌≤◌, List, [], ◌∷◌, ◌++◌, map, length, get_or, take, set, sym, refl, ap, ◌∙◌, subst, inl, inr, arith}
+use Rattle.std.proofs.Common.{◌≡◌, ℕ, zero, suc, ◌+◌, ◌<◌, ◌≤◌, Bool, true, false, cond, List, [], ◌∷◌, ◌++◌, map, length, get_or, take, set, sym, refl, ap, ◌∙◌, subst, inl, inr, arith}
+use Rattle.std.proofs.Math.Numerals.{one-add}
 use Rattle.std.proofs.lemmas.List.{take_more, take_more_set, length-take-le, take_all, length-take, length-map, length_push, map_push, get_or_append_left, get_or_push, length-set}
-use Rattle.std.proofs.lemmas.Bool.{cases_lt}
+use Rattle.std.specs.Str.{bytes_eq}
+use Rattle.std.proofs.lemmas.Slice.Eq.{bytes_eq-Decides}
+use Rattle.std.proofs.lemmas.Bool.{cases_lt, false≢true}
 use Rattle.cells.specs.Parts.{cells}
 use Rattle.dayfile.specs.declared.column.Column.{Column}
 use Rattle.dayfile.specs.declared.column.Column.TheVariants.{Call}
 use Rattle.dayfile.specs.Columns.{name_of}
 use Rattle.dayfile.specs.Names.{Among, Distinct, New, Begins, Names, Stops}
-use Rattle.dayfile.specs.Faults.{names_fault}
 use Rattle.dayfile.specs.declared.fault.Fault.{Fault}
+use Rattle.dayfile.specs.declared.fault.Fault.TheVariants as fault
+use Rattle.dayfile.specs.Steps.{place_of}
+use Rattle.dayfile.proofs.Columns.{same_named}
 use Rattle.dayfile.proofs.Seven.{seven_all}
 
 -- a column that is not among them, put behind them
@@ -42,7 +47,7 @@ begins_none line = record { names = refl; once = λ j k a b. absurd (omega arith
 -- the loop over the places of the names: `here` is the line as it was cut, and `before` the part of the array that is filled
 module _ (line here : List ℕ) (cs before : List Column) (i : ℕ) (same : here ≡ line) (filled : before ≡ take i cs) (seven : length cs ≡ 7) (h : Begins line (take i cs)) where
   -- no new name comes
-  pub names_stop : (f : Fault) → i < 7 → (f ≡ names_fault (length before + 1)) × (length before < 7 → (c : Column) → New here before c → ⊥) → (seen : List Column) × Stops line seen × (f ≡ names_fault (length seen + 1))
+  pub names_stop : (f : Fault) → i < 7 → (f ≡ fault.Names (length before + 1)) × (length before < 7 → (c : Column) → New here before c → ⊥) → (seen : List Column) × Stops line seen × (f ≡ fault.Names (length seen + 1))
   names_stop f l told =
       let long : length before ≡ i = ap length filled ∙ length-take-le i cs (omega arith) in (
         before,
@@ -64,7 +69,7 @@ module _ (line : List ℕ) (cs : List Column) (i : ℕ) (end : 7 ≤ i) (seven :
   all_begin = subst (Begins line) (take_all i cs (omega arith)) h
 
   -- after seven names no cell is a new one
-  pub names_over : (f : Fault) → 7 < length (cells line) → f ≡ names_fault 8 → (seen : List Column) × Stops line seen × (f ≡ names_fault (length seen + 1))
+  pub names_over : (f : Fault) → 7 < length (cells line) → f ≡ fault.Names 8 → (seen : List Column) × Stops line seen × (f ≡ fault.Names (length seen + 1))
   names_over f more is = (
     cs,
     record {
@@ -72,7 +77,7 @@ module _ (line : List ℕ) (cs : List Column) (i : ℕ) (end : 7 ≤ i) (seven :
       next = λ c n. n.fresh (seven_all cs seven all_begin.once c);
       missing = λ e. absurd (omega arith);
     },
-    is ∙ ap (λ n. names_fault (n + 1)) (sym seven),
+    is ∙ ap (λ n. fault.Names (n + 1)) (sym seven),
   )
 
   pub names_all : length (cells line) ≤ 7 → Names line cs
@@ -88,23 +93,35 @@ module _ (line : List ℕ) (cs : List Column) (i : ℕ) (end : 7 ≤ i) (seven :
   pub names_once : Distinct cs
   names_once = all_begin.once
 
--- a column that stands at a place is found there, and nowhere else
-pub one_place : (cs : List Column) (c : Column) (k p : ℕ) → Distinct cs → k < length cs → get_or cs k Call ≡ c → ((j : ℕ) → j < p → get_or cs j Call ≡ c → ⊥) → (p < length cs → get_or cs p Call ≡ c) → p ≡ k
-one_place cs c k p once l e before found = elim (cases_lt k p) [
-  | inl lower ↦ absurd (before k lower e)
-  | inr upper ↦ elim (cases_lt p k) [
-    | inl less ↦ absurd (once p k less l (found (omega arith) ∙ sym e))
+-- a column stands at one place only
+pub same_place : (cs : List Column) (j k : ℕ) → Distinct cs → j < length cs → k < length cs → get_or cs j Call ≡ get_or cs k Call → j ≡ k
+same_place cs j k once a b e = elim (cases_lt j k) [
+  | inl less ↦ absurd (once j k less b e)
+  | inr more ↦ elim (cases_lt k j) [
+    | inl less ↦ absurd (once k j less a (sym e))
     | inr same ↦ omega arith
   ]
 ]
 
--- a column stands at one place only
-pub same_place : (cs : List Column) (j k : ℕ) → Distinct cs → j < length cs → k < length cs → get_or cs j Call ≡ get_or cs k Call → j ≡ k
-same_place cs j k once a b e = one_place cs (get_or cs j Call) k j once b (sym e) (λ i l m. once i j l a m) (λ l. refl)
-
 -- a column that stands somewhere is found
-pub found_place : (cs : List Column) (c : Column) (p : ℕ) → Among c cs → ((j : ℕ) → j < p → get_or cs j Call ≡ c → ⊥) → p < length cs
-found_place cs c p among before = elim (cases_lt among.0 p) [
-  | inl l ↦ absurd (before among.0 l among.2)
-  | inr l ↦ omega (arith, among.1)
-]
+found : (cs : List Column) (c : Column) (k : ℕ) → k < length cs → get_or cs k Call ≡ c → (place_of cs c < length cs) × (get_or cs (place_of cs c) Call ≡ c)
+found [] c k l e = absurd (omega arith)
+found (d ∷ ds) c zero l e = at (bytes_eq (name_of c) (name_of d)) refl
+  where
+    at : (v : Bool) → bytes_eq (name_of c) (name_of d) ≡ v → (cond v 0 (1 + place_of ds c) < length (d ∷ ds)) × (get_or (d ∷ ds) (cond v 0 (1 + place_of ds c)) Call ≡ c)
+    at true is = (omega arith, e)
+    at false is = absurd (false≢true (sym is ∙ (bytes_eq-Decides _ _).1 (ap name_of (sym e))))
+found (d ∷ ds) c (suc k) l e = at (bytes_eq (name_of c) (name_of d)) refl (found ds c k (omega arith) e)
+  where
+    at : (v : Bool) → bytes_eq (name_of c) (name_of d) ≡ v → (place_of ds c < length ds) × (get_or ds (place_of ds c) Call ≡ c) → (cond v 0 (1 + place_of ds c) < length (d ∷ ds)) × (get_or (d ∷ ds) (cond v 0 (1 + place_of ds c)) Call ≡ c)
+    at true is h = (omega arith, sym (same_named c d ((bytes_eq-Decides _ _).0 is)))
+    at false is h = (omega (arith, h.0), rw one-add h.1)
+
+-- each of seven different columns is found
+module _ (cs : List Column) (once : Distinct cs) (seven : length cs ≡ 7) (c : Column) where
+  pub found_place : (place_of cs c < length cs) × (get_or cs (place_of cs c) Call ≡ c)
+  found_place = let all = seven_all cs seven once c in found cs c all.0 all.1 all.2
+
+  -- at the place at which it stands
+  pub one_place : (k : ℕ) → k < length cs → get_or cs k Call ≡ c → k ≡ place_of cs c
+  one_place k l e = same_place cs k (place_of cs c) once l found_place.0 (e ∙ sym found_place.1)
