@@ -1,5 +1,5 @@
 -- A line with a cell for each column, whose call is known: what it asks, or its leftmost bad cell.
-use Rattle.std.proofs.Common.{◌≡◌, ℕ, ◌+◌, ◌<◌, true, false, List, [], length, get_or, ℤ, pos, is_some, Ok, Err, Result, unwrap_or, sym, refl, ap, ◌∙◌, subst, inl, inr, arith}
+use Rattle.std.proofs.Common.{◌≡◌, ℕ, ◌<◌, true, false, List, [], length, get_or, ℤ, pos, Ok, Err, unwrap_or, sym, refl, ap, ◌∙◌, subst, inl, inr, arith}
 use Rattle.cells.specs.Numbers.{number_of}
 use Rattle.cells.specs.Parts.{cells}
 use Rattle.std.proofs.lemmas.Bool.{false≢true}
@@ -7,7 +7,6 @@ use Rattle.dayfile.specs.declared.call.Call.{Call}
 use Rattle.dayfile.specs.declared.column.Column.{Column}
 use Rattle.dayfile.specs.declared.column.Column.TheVariants as column
 use Rattle.dayfile.specs.declared.fault.Fault.{Fault}
-use Rattle.dayfile.specs.declared.fault.Fault.TheVariants as fault
 use Rattle.dayfile.specs.declared.order.Order.{Order}
 use Rattle.dayfile.specs.declared.row.Row.{Row}
 use Rattle.dayfile.specs.Calls.{letter_of}

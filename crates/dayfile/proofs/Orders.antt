@@ -37,32 +37,21 @@ begins_push line seen c h n = record {
   once = distinct_push seen c h.once n.fresh;
 }
 
--- the same where the name goes into the next place of an array
-pub begins_set : (line : List ℕ) (cs : List Column) (i : ℕ) (c : Column) → i < length cs → Begins line (take i cs) → New line (take i cs) c → Begins line (take (i + 1) (set cs i c))
-begins_set line cs i c l h n = subst (Begins line) (sym (take_more_set cs i c l)) (begins_push line (take i cs) c h n)
-
 pub begins_none : (line : List ℕ) → Begins line []
 begins_none line = record { names = refl; once = λ j k a b. absurd (omega arith) }
 
--- the loop over the places of the names: `here` is the line as it was cut, and `before` the part of the array that is filled
-module _ (line here : List ℕ) (cs before : List Column) (i : ℕ) (same : here ≡ line) (filled : before ≡ take i cs) (seven : length cs ≡ 7) (h : Begins line (take i cs)) where
+-- the loop over the places of the names
+module _ (line : List ℕ) (cs : List Column) (i : ℕ) (l : i < 7) (seven : length cs ≡ 7) (h : Begins line (take i cs)) where
   -- no new name comes
-  pub names_stop : (f : Fault) → i < 7 → (f ≡ fault.Names (length before + 1)) × (length before < 7 → (c : Column) → New here before c → ⊥) → (seen : List Column) × Stops line seen × (f ≡ fault.Names (length seen + 1))
-  names_stop f l told =
-      let long : length before ≡ i = ap length filled ∙ length-take-le i cs (omega arith) in (
-        before,
-        record {
-          begins = subst (Begins line) (sym filled) h;
-          next = λ c n. told.1 (omega arith) c (subst (λ t. New t before c) (sym same) n);
-          missing = λ e. omega arith;
-        },
-        told.0,
-      )
+  pub names_stop : (f : Fault) → (f ≡ fault.Names (length (take i cs) + 1)) × (length (take i cs) < 7 → (c : Column) → New line (take i cs) c → ⊥) → (seen : List Column) × Stops line seen × (f ≡ fault.Names (length seen + 1))
+  names_stop f told =
+      let long = length-take-le i cs (omega arith) in
+      (take i cs, record { begins = h; next = told.1 (omega arith); missing = λ e. omega arith }, told.0)
 
   -- one comes, and goes into its place
-  pub names_more : (c : Column) → i < 7 → New here before c → (length (set cs i c) ≡ 7) × Begins line (take (i + 1) (set cs i c))
-  names_more c l n =
-      (length-set cs i c ∙ seven, begins_set line cs i c (omega arith) h (subst (λ t. New line t c) filled (subst (λ t. New t before c) same n)))
+  pub names_more : (c : Column) → New line (take i cs) c → (length (set cs i c) ≡ 7) × Begins line (take (i + 1) (set cs i c))
+  names_more c n =
+      (length-set cs i c ∙ seven, subst (Begins line) (sym (take_more_set cs i c (omega arith))) (begins_push line (take i cs) c h n))
 
 module _ (line : List ℕ) (cs : List Column) (i : ℕ) (end : 7 ≤ i) (seven : length cs ≡ 7) (h : Begins line (take i cs)) where
   all_begin : Begins line cs

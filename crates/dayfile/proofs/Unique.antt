@@ -1,5 +1,5 @@
 -- A line of names, and a line of values, give one answer and no other.
-use Rattle.std.proofs.Common.{◌≡◌, ℕ, ◌+◌, ◌<◌, ◌≤◌, List, [], length, get_or, ℤ, pos, Ok, Err, unwrap_or, sym, ap, ◌∙◌, subst, inl, inr, arith}
+use Rattle.std.proofs.Common.{◌≡◌, ℕ, ◌+◌, ◌<◌, ◌≤◌, List, [], length, get_or, pos, Ok, Err, unwrap_or, sym, ap, ◌∙◌, subst, inl, inr, arith}
 use Rattle.cells.specs.Numbers.{number_of}
 use Rattle.cells.specs.Parts.{cells}
 use Rattle.std.proofs.lemmas.List.{ext_get_or, get_or-map, get_or-take, length-map, length-take}

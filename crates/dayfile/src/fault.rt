@@ -45,7 +45,7 @@ impl Fault {
         }
     }
 
-    // The cell at fault, or the count of cells; 0 where the book refuses.
+    // The cell at fault, or the count of cells. A refusal of the book has cell 0, as the format has it.
     pub fn cell(self) -> usize
         ensures { result ≡ (told self).cell }
     {

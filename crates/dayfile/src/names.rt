@@ -18,7 +18,7 @@ pub(crate) fn order_of(line: &[u8]) -> Result<Order, Fault>
     let mut columns = [Column::Call; COLUMNS];
     // The place of a name is needed too: a name is new beside those before its place.
     for i in 0..COLUMNS {
-        columns[i] = next_name(&cut, &columns[0..i])?;
+        columns[i] = next_name(&cut, &columns[..i])?;
     }
     no_more(&cut)?;
     Ok(Order { columns })

@@ -14,6 +14,7 @@ pub struct UnreadFile<'a> {
 }
 
 // The lines of values of a day file, from offset `at` on; `read` of them are read.
+// The bytes stay whole, since offsets of cells count from the first byte of the file.
 #[derive(Drop)]
 pub struct RowReader<'a> {
     bytes: &'a [u8],
@@ -96,7 +97,7 @@ impl<'a> Iterator for RowReader<'a> {
         }
         let end = from + part_at(self.bytes, from, b'\n').bytes.len();
         let line = self.read + 2;
-        let row = Values::read(&self.bytes[0..end], from, self.order, line);
+        let row = Values::read(&self.bytes[..end], from, self.order, line);
         self.at = past(self.bytes, end);
         self.read += 1;
         Some(Entry { line, row })

@@ -1,5 +1,5 @@
 -- The rows that a reader yields are those of its lines.
-use Rattle.std.proofs.Common.{◌≡◌, ℕ, ◌+◌, List, [], ◌∷◌, sym, arith}
+use Rattle.std.proofs.Common.{◌≡◌, ◌+◌, List, [], ◌∷◌, sym, arith}
 use Rattle.std.specs.Iterator.{Yields}
 use Rattle.dayfile.specs.declared.entry.Entry.{Entry}
 use Rattle.dayfile.specs.declared.reader.RowReader.{RowReader}

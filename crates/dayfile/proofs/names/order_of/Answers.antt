@@ -1,37 +1,21 @@
-use Rattle.std.proofs.Common.{◌≡◌, ◌-◌, take, refl, ap, arith, rules}
 use Rattle.std.proofs.lemmas.Result.{err_from_is_err_and}
-use Rattle.dayfile.proofs.Orders.{begins_none, names_stop, names_more, names_over, names_all, names_once}
+use Rattle.dayfile.proofs.Orders.{names_stop, names_more, names_over, names_all, names_once}
 use Rattle.dayfile.proofs.names.order_of.Goals as goal
-
-pub loop-i-init : goal.loop-i-init
-loop-i-init c = (refl, begins_none c.args.line.now)
-
-pub slice_bounds-next_name-end : goal.slice_bounds-next_name-end
-slice_bounds-next_name-end c = let seven = c.loop-i.invariant.0 in search rules
 
 pub returns-in_err-columns : goal.returns-in_err-columns
 returns-in_err-columns c =
-    let same = c.cut-cut.ensures.line in
-    let i = c.loop-i.i in
-    let z : i - 0 ≡ i = omega arith in
-    let filled : take (i - 0) c.loop-i.columns ≡ take i c.loop-i.columns = ap (λ k. take k c.loop-i.columns) z in
     let p = err_from_is_err_and c.from_residual.result c.from_residual.ensures.1 in
-    rw (p.1, p.2) (names_stop _ _ _ _ i same filled c.loop-i.invariant.0 c.loop-i.invariant.1 c.in_err-columns.field-0.0 c.loop-i-test.true c.in_err-columns.ensures)
+    rw (p.1, p.2) (names_stop _ _ _ c.loop-i-test.true c.loop-i.invariant.0 c.loop-i.invariant.1 _ (rw c.cut-cut.ensures.line at c.in_err-columns.ensures))
 
 pub loop-i-preserved : goal.loop-i-preserved
 loop-i-preserved c =
-    let same = c.cut-cut.ensures.line in
-    let i = c.loop-i.i in
-    let z : i - 0 ≡ i = omega arith in
-    let filled : take (i - 0) c.loop-i.columns ≡ take i c.loop-i.columns = ap (λ k. take k c.loop-i.columns) z in
-    names_more _ _ _ _ i same filled c.loop-i.invariant.0 c.loop-i.invariant.1 c.in_ok-columns.field-0 c.loop-i-test.true c.in_ok-columns.ensures
+    names_more _ _ _ c.loop-i-test.true c.loop-i.invariant.0 c.loop-i.invariant.1 _ (rw c.cut-cut.ensures.line at c.in_ok-columns.ensures)
 
 pub returns-in_err-no_more : goal.returns-in_err-no_more
 returns-in_err-no_more c =
-    let cut = c.cut-cut.ensures in
-    let told = c.in_err-no_more.ensures in
+    let told = rw c.cut-cut.ensures.line at c.in_err-no_more.ensures in
     let p = err_from_is_err_and c.from_residual-in_err-no_more.result c.from_residual-in_err-no_more.ensures.1 in
-    rw (p.1, p.2) (names_over _ _ _ c.loop-i-test.false c.loop-i.invariant.0 c.loop-i.invariant.1 _ (rw cut.line at told.0) told.1)
+    rw (p.1, p.2) (names_over _ _ _ c.loop-i-test.false c.loop-i.invariant.0 c.loop-i.invariant.1 _ told.0 told.1)
 
 pub invariant_of-result : goal.invariant_of-result
 invariant_of-result c = record { count = c.loop-i.invariant.0; once = names_once _ _ _ c.loop-i-test.false c.loop-i.invariant.0 c.loop-i.invariant.1 }

@@ -1,4 +1,4 @@
-use Rattle.std.proofs.Common.{ℕ, ◌≡◌, length, MatchOption, get_or, Option, Some, None, sym, refl, ◌∙◌, rules, arith, subst}
+use Rattle.std.proofs.Common.{rules}
 use Rattle.dayfile.proofs.Orders.{one_place}
 use Rattle.dayfile.proofs.Seven.{seven_all}
 use Rattle.dayfile.proofs.order.Order.place.Goals as goal

@@ -1,4 +1,4 @@
-use Rattle.std.proofs.Common.{get_or, sym, ap, ◌∙◌, arith, below_more}
+use Rattle.std.proofs.Common.{get_or, sym, ap, ◌∙◌, below_more}
 use Rattle.dayfile.specs.declared.column.Column.TheVariants.{Call}
 use Rattle.dayfile.specs.Steps.{good_cell}
 use Rattle.dayfile.proofs.values.Values.check.Goals as goal

@@ -1,4 +1,3 @@
-use Rattle.std.proofs.Common.{arith}
 use Rattle.std.proofs.lemmas.Result.{err_from_is_err_and}
 use Rattle.cells.specs.Cut.{line_in}
 use Rattle.dayfile.proofs.Lines.{call_wrong, cell_wrong, has_numbers, all_asked}
