@@ -1,8 +1,10 @@
 -- A column and its name tell each other.
-use Rattle.std.proofs.Common.{◌≡◌, ℕ, cond, eqb, get_or, sym, refl, ap, ◌∙◌}
+use Rattle.std.proofs.Common.{◌≡◌, ℕ, Decides, cond, eqb, get_or, sym, refl, ap, ◌∙◌}
+use Rattle.std.proofs.lemmas.Slice.Eq.{bytes_eq-Decides}
 use Rattle.dayfile.specs.declared.column.Column.{Column}
 use Rattle.dayfile.specs.declared.column.Column.TheVariants.{Call, Unit, Minute, From, To, Kw, Price}
 use Rattle.dayfile.specs.Columns.{name_of}
+use Rattle.dayfile.specs.Steps.{is}
 
 -- the column whose name begins with a byte: no two begin alike
 abbrev begun : ℕ → Column
@@ -20,3 +22,6 @@ begun_name Price = refl
 -- two columns of one name are one
 pub same_named : (c d : Column) → name_of c ≡ name_of d → c ≡ d
 same_named c d e = sym (begun_name c) ∙ ap (λ name. begun (get_or name 0 0)) e ∙ begun_name d
+
+pub is-Decides : (c d : Column) → Decides (is c d) (c ≡ d)
+is-Decides c d = (λ h. same_named c d ((bytes_eq-Decides _ _).0 h), λ e. (bytes_eq-Decides _ _).1 (ap name_of e))

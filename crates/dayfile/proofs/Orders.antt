@@ -4,7 +4,9 @@ use Rattle.std.proofs.Math.Numerals.{one-add}
 use Rattle.std.proofs.lemmas.List.{take_more, take_more_set, length-take-le, take_all, length-take, length-map, length_push, map_push, get_or_append_left, get_or_push, length-set}
 use Rattle.std.specs.Str.{bytes_eq}
 use Rattle.std.proofs.lemmas.Slice.Eq.{bytes_eq-Decides}
-use Rattle.std.proofs.lemmas.Bool.{cases_lt, false≢true}
+use Rattle.std.proofs.lemmas.Bool.{cases_lt, not-true}
+use Rattle.std.proofs.lemmas.Bool.Decides.{Decides-not}
+use Rattle.std.proofs.lemmas.List.Sums.{position_or_len_is}
 use Rattle.cells.specs.Parts.{cells}
 use Rattle.dayfile.specs.declared.column.Column.{Column}
 use Rattle.dayfile.specs.declared.column.Column.TheVariants.{Call}
@@ -12,8 +14,8 @@ use Rattle.dayfile.specs.Columns.{name_of}
 use Rattle.dayfile.specs.Names.{Among, Distinct, New, Begins, Names, Stops}
 use Rattle.dayfile.specs.declared.fault.Fault.{Fault}
 use Rattle.dayfile.specs.declared.fault.Fault.TheVariants as fault
-use Rattle.dayfile.specs.Steps.{place_of}
-use Rattle.dayfile.proofs.Columns.{same_named}
+use Rattle.dayfile.specs.Steps.{is, place_of}
+use Rattle.dayfile.proofs.Columns.{is-Decides}
 use Rattle.dayfile.proofs.Seven.{seven_all}
 
 -- a column that is not among them, put behind them
@@ -92,25 +94,17 @@ same_place cs j k once a b e = elim (cases_lt j k) [
   ]
 ]
 
--- a column that stands somewhere is found
-found : (cs : List Column) (c : Column) (k : ℕ) → k < length cs → get_or cs k Call ≡ c → (place_of cs c < length cs) × (get_or cs (place_of cs c) Call ≡ c)
-found [] c k l e = absurd (omega arith)
-found (d ∷ ds) c zero l e = at (bytes_eq (name_of c) (name_of d)) refl
-  where
-    at : (v : Bool) → bytes_eq (name_of c) (name_of d) ≡ v → (cond v 0 (1 + place_of ds c) < length (d ∷ ds)) × (get_or (d ∷ ds) (cond v 0 (1 + place_of ds c)) Call ≡ c)
-    at true is = (omega arith, e)
-    at false is = absurd (false≢true (sym is ∙ (bytes_eq-Decides _ _).1 (ap name_of (sym e))))
-found (d ∷ ds) c (suc k) l e = at (bytes_eq (name_of c) (name_of d)) refl (found ds c k (omega arith) e)
-  where
-    at : (v : Bool) → bytes_eq (name_of c) (name_of d) ≡ v → (place_of ds c < length ds) × (get_or ds (place_of ds c) Call ≡ c) → (cond v 0 (1 + place_of ds c) < length (d ∷ ds)) × (get_or (d ∷ ds) (cond v 0 (1 + place_of ds c)) Call ≡ c)
-    at true is h = (omega arith, sym (same_named c d ((bytes_eq-Decides _ _).0 is)))
-    at false is h = (omega (arith, h.0), rw one-add h.1)
+-- a column is found at the place at which it stands
+place_is : (cs : List Column) (c : Column) (k : ℕ) → Distinct cs → k < length cs → get_or cs k Call ≡ c → place_of cs c ≡ k
+place_is cs c k once l e =
+    position_or_len_is (is c) cs k Call (omega arith) (λ j m. not-true _ ((Decides-not _ (is-Decides c (get_or cs j Call))).1 (λ same. once j k m l (sym same ∙ sym e)))) (λ _. (is-Decides c (get_or cs k Call)).1 (sym e))
 
--- each of seven different columns is found
+-- each of seven different columns stands at one
 module _ (cs : List Column) (once : Distinct cs) (seven : length cs ≡ 7) (c : Column) where
-  pub found_place : (place_of cs c < length cs) × (get_or cs (place_of cs c) Call ≡ c)
-  found_place = let all = seven_all cs seven once c in found cs c all.0 all.1 all.2
-
-  -- at the place at which it stands
   pub one_place : (k : ℕ) → k < length cs → get_or cs k Call ≡ c → k ≡ place_of cs c
-  one_place k l e = same_place cs k (place_of cs c) once l found_place.0 (e ∙ sym found_place.1)
+  one_place k l e = sym (place_is cs c k once l e)
+
+  pub found_place : (place_of cs c < length cs) × (get_or cs (place_of cs c) Call ≡ c)
+  found_place =
+      let all = seven_all cs seven once c in
+      rw (place_is cs c all.0 once all.1 all.2) (all.1, all.2)

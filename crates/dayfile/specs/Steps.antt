@@ -2,6 +2,7 @@
 use Rattle.std.specs.Prelude.{◌≡◌, ℕ, ◌+◌, ◌<◌, Bool, true, false, cond, ◌||◌, List, [], ◌∷◌, length, ℤ, pos, is_some, Ok, Err, codes, Result, MatchResult, ◌≢◌, slice_index_or}
 use Rattle.cells.specs.Numbers.{number_of}
 use Rattle.cells.specs.Parts.{cells}
+use Rattle.std.specs.List.{list_any, position_or_len}
 use Rattle.std.specs.Option.{unwrap_or}
 use Rattle.std.specs.Str.{bytes_eq}
 use Rattle.dayfile.specs.declared.call.Call.{Call}
@@ -23,16 +24,16 @@ used File = column.Unit ∷ (Minute ∷ (From ∷ (To ∷ (Kw ∷ (Price ∷ [])
 used (Round kind) = column.Unit ∷ (Minute ∷ (Price ∷ []))
 used InForce = column.Unit ∷ (From ∷ [])
 
-abbrev pub has : List Column → Column → Bool
-has [] c = false
-has (d ∷ ds) c = bytes_eq (name_of c) (name_of d) || has ds c
+-- one column, by its name
+abbrev pub is : Column → Column → Bool
+is c d = bytes_eq (name_of c) (name_of d)
 
 abbrev pub uses : Call → Column → Bool
-uses call c = has (used call) c
+uses call c = list_any (is c) (used call)
 
 -- in a row of a call a cell is a number where the call uses its column, and else `-`; the call's own cell is read by itself
 abbrev pub good_cell : Call → Column → List ℕ → Bool
-good_cell call c cell = bytes_eq (name_of c) (codes "call") || cond (uses call c) (is_some (number_of cell)) (bytes_eq cell (codes "-"))
+good_cell call c cell = is column.Call c || cond (uses call c) (is_some (number_of cell)) (bytes_eq cell (codes "-"))
 
 -- the row of a call with the numbers of these columns
 abbrev pub row_with : Call → (Column → ℤ) → Row
@@ -43,8 +44,7 @@ row_with InForce z = row.InForce (z column.Unit) (z From)
 
 -- the place of a column, or the count of columns where it has none
 abbrev pub place_of : List Column → Column → ℕ
-place_of [] c = 0
-place_of (d ∷ ds) c = cond (bytes_eq (name_of c) (name_of d)) 0 (1 + place_of ds c)
+place_of cs c = position_or_len (is c) cs
 
 -- the cell under a column
 abbrev pub cell_under : List Column → List ℕ → Column → List ℕ

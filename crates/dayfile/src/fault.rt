@@ -39,9 +39,9 @@ impl Fault {
     {
         match self {
             Fault::Names { .. } => 1,
-            Fault::BadCell { line, .. } => line,
-            Fault::CellCount { line, .. } => line,
-            Fault::Refused { line, .. } => line,
+            Fault::BadCell { line, .. }
+            | Fault::CellCount { line, .. }
+            | Fault::Refused { line, .. } => line,
         }
     }
 

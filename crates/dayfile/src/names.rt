@@ -2,8 +2,7 @@ ghost use Rattle.std.specs.Prelude.{◌≡◌, ◌+◌, ◌<◌, ◌≤◌, leng
 ghost use Rattle.cells.specs.Cut.{line_in};
 ghost use Rattle.cells.specs.Parts.{cells};
 ghost use Rattle.dayfile.specs.Columns.{columns, name_of};
-ghost use Rattle.dayfile.specs.Names.{Among, New, NamesRead};
-ghost use Rattle.dayfile.specs.Orders.{columns_of};
+ghost use Rattle.dayfile.specs.Names.{Among, New};
 
 use crate::column::{COLUMNS, Column};
 use crate::fault::Fault;
@@ -11,17 +10,24 @@ use crate::order::Order;
 use cells::line::CutLine;
 
 // The order of the columns that a line of names gives, or the fault at its first cell that is no new name.
-pub(crate) fn order_of(line: &[u8]) -> Result<Order, Fault>
-    ensures { NamesRead line.now (columns_of result) }
-{
-    let cut = CutLine::<'_, COLUMNS>::cut(line, 0);
-    let mut columns = [Column::Call; COLUMNS];
-    // The place of a name is needed too: a name is new beside those before its place.
-    for i in 0..COLUMNS {
-        columns[i] = next_name(&cut, &columns[..i])?;
+impl TryFrom<&[u8]> for Order {
+    type Error = Fault;
+
+    ghost use Rattle.dayfile.specs.Names.{NamesRead};
+    ghost use Rattle.dayfile.specs.Orders.{columns_of};
+
+    ghost try_from_gives = { λ line r. NamesRead line.now (columns_of r) };
+
+    fn try_from(line: &[u8]) -> Result<Order, Fault> {
+        let cut = CutLine::<'_, COLUMNS>::cut(line, 0);
+        let mut columns = [Column::Call; COLUMNS];
+        // By place, and no chain: a name is to be new beside those in the places before its own.
+        for i in 0..COLUMNS {
+            columns[i] = next_name(&cut, &columns[..i])?;
+        }
+        no_more(&cut)?;
+        Ok(Order { columns })
     }
-    no_more(&cut)?;
-    Ok(Order { columns })
 }
 
 // No cell stands behind those of the columns.
@@ -49,10 +55,7 @@ fn next_name(cut: &CutLine<'_, COLUMNS>, seen: &[Column]) -> Result<Column, Faul
 fn new_name(cell: &[u8], seen: &[Column]) -> Option<Column>
     ensures { MatchOption result ((c : Column) → cell.now ≡ name_of c → Among c seen.now) (λ c. (cell.now ≡ name_of c) × (Among c seen.now → ⊥)) }
 {
-    let column = Column::try_from(cell).ok()?;
-    if seen.contains(&column) {
-        None
-    } else {
-        Some(column)
-    }
+    Column::try_from(cell)
+        .ok()
+        .filter(|column| !seen.contains(column))
 }

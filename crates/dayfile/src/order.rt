@@ -7,7 +7,7 @@ ghost use Rattle.dayfile.specs.declared.column.Column.TheVariants.{Call};
 use crate::column::{COLUMNS, Column};
 
 // The order of the columns in a file: as many as there are, all different.
-#[derive(Clone, Copy)]
+#[derive(Clone, Copy, Debug, PartialEq, Eq)]
 pub struct Order {
     pub columns: [Column; COLUMNS],
     ghost count: { length columns ≡ length seven },

@@ -2,7 +2,6 @@ ghost use Rattle.std.specs.Prelude.{◌≡◌, ℕ, ◌+◌, ◌<◌, ◌≤◌,
 
 use crate::entry::Entry;
 use crate::fault::Fault;
-use crate::names::order_of;
 use crate::order::Order;
 use crate::values::Values;
 use cells::part::part_at;
@@ -43,7 +42,7 @@ impl<'a> UnreadFile<'a> {
     pub fn names(&self) -> Result<Order, Fault>
         ensures { NamesRead (name_line self.now.bytes.now) (columns_of result) }
     {
-        order_of(self.name_line())
+        Order::try_from(self.name_line())
     }
 
     // Uses the file up: its rows. There are none where the names are refused.

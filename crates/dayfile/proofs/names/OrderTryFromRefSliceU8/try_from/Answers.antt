@@ -1,6 +1,6 @@
 use Rattle.std.proofs.lemmas.Result.{err_from_is_err_and}
 use Rattle.dayfile.proofs.Orders.{names_stop, names_more, names_over, names_all, names_once}
-use Rattle.dayfile.proofs.names.order_of.Goals as goal
+use Rattle.dayfile.proofs.names.OrderTryFromRefSliceU8.try_from.Goals as goal
 
 pub returns-in_err-columns : goal.returns-in_err-columns
 returns-in_err-columns c =
