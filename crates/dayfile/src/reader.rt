@@ -5,11 +5,21 @@ use crate::fault::Fault;
 use crate::order::Order;
 use crate::values::Values;
 use cells::part::part_at;
+use std::marker::Model;
 
 // A day file of which nothing is used up yet: only its names can be read.
 #[derive(Drop)]
 pub struct UnreadFile<'a> {
     bytes: &'a [u8],
+}
+
+// A contract sees it as its bytes.
+impl<'a> Model for UnreadFile<'a> {
+    ghost use Rattle.std.specs.Prelude.{ℕ, List};
+
+    ghost Value = { List ℕ };
+
+    ghost view = { λ file. file.bytes.now };
 }
 
 // The lines of values of a day file, from offset `at` on; `read` of them are read.
@@ -33,21 +43,21 @@ impl<'a> UnreadFile<'a> {
     ghost use Rattle.dayfile.specs.Orders.{columns_of};
 
     pub fn new(bytes: &'a [u8]) -> UnreadFile<'a>
-        ensures { result.bytes.now ≡ bytes.now }
+        ensures { result ≡ bytes.now }
     {
         UnreadFile { bytes }
     }
 
     // The order of the columns, or the fault in the names.
     pub fn names(&self) -> Result<Order, Fault>
-        ensures { NamesRead (name_line self.now.bytes.now) (columns_of result) }
+        ensures { NamesRead (name_line self.now) (columns_of result) }
     {
         Order::try_from(self.name_line())
     }
 
     // Uses the file up: its rows. There are none where the names are refused.
     pub fn rows(self) -> RowReader<'a>
-        ensures opened { Opened self.entry.bytes.now result }
+        ensures opened { Opened self.entry result }
         ensures so { LinesAreSo }
         ensures names_only { NamesOnly }
         ensures rows_only { RowsOnly }
@@ -71,7 +81,7 @@ impl<'a> UnreadFile<'a> {
 
     // The first line.
     fn name_line(&self) -> &'a [u8]
-        ensures { result.now ≡ name_line self.now.bytes.now }
+        ensures { result.now ≡ name_line self.now }
     {
         part_at(self.bytes, 0, b'\n').bytes
     }

@@ -7,9 +7,11 @@ use Rattle.dayfile.proofs.reader.UnreadFile.rows.Goals as goal
 
 pub returns-in_default : goal.returns-in_default
 returns-in_default c =
-    let bs = c.args.self.bytes.now in
+    let bs = c.self.inside.bytes.now in
+    let told = rw (← c.self.view_is) at c.in_default.ensures in
+    rw (← c.self.view_is)
     record {
-      opened = opened_none bs c.in_default.field-0 _ refl c.in_default.ensures (none_left bs (length bs) (omega arith));
+      opened = opened_none bs c.in_default.field-0 _ refl told (none_left bs (length bs) (omega arith));
       so = lines_are_so;
       names_only = names_only;
       rows_only = rows_only;
@@ -17,9 +19,12 @@ returns-in_default c =
 
 pub returns : goal.returns
 returns c =
-    let bs = c.args.self.bytes.now in
+    let bs = c.self.inside.bytes.now in
+    let told = rw (← c.self.view_is) at c.in-Ok.ensures in
+    let line = rw (← c.self.view_is) at c.name_line-end.ensures in
+    rw (← c.self.view_is)
     record {
-      opened = opened_all bs _ _ refl c.in-Ok.ensures (ap length (c.name_line-end.ensures ∙ lines_first bs)) c.past.ensures.rest;
+      opened = opened_all bs _ _ refl told (ap length (line ∙ lines_first bs)) c.past.ensures.rest;
       so = lines_are_so;
       names_only = names_only;
       rows_only = rows_only;
