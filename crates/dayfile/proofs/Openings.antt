@@ -45,5 +45,5 @@ module _ (bytes : List ℕ) where
         let there : drop (length (up_to 10 (drop at bytes)) + 1) (drop at bytes) ≡ drop next bytes = drop-drop _ at bytes ∙ ap (λ k. drop k bytes) (omega arith) ∙ sym rest in
         lines_more (drop at bytes) (omega arith) ∙ ap (λ l. up_to 10 (drop at bytes) ∷ lines l) there
 
-    pub row_left : (cs : List Column) (n m : ℕ) (r : Result Row Fault) → m ≡ end → RowRead cs n (drop at (take m bytes)) r → RowRead cs n (up_to 10 (drop at bytes)) r
-    row_left cs n m r e h = subst (λ l. RowRead cs n l r) (ap (λ k. drop at (take k bytes)) e ∙ line_part bytes at end ends) h
+    pub row_left : (cs : List Column) (n : ℕ) (r : Result Row Fault) → RowRead cs n (drop at (take end bytes)) r → RowRead cs n (up_to 10 (drop at bytes)) r
+    row_left cs n r h = subst (λ l. RowRead cs n l r) (line_part bytes at end ends) h

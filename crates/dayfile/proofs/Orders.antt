@@ -1,14 +1,18 @@
 -- The names of a line, one after the other.
 use Rattle.std.proofs.Common.{◌≡◌, ℕ, ◌+◌, ◌<◌, ◌≤◌, List, [], ◌∷◌, ◌++◌, map, length, get_or, take, set, sym, refl, ap, ◌∙◌, subst, inl, inr, arith}
 use Rattle.std.proofs.lemmas.List.{take_more, take_more_set, length-take-le, take_all, length-take, length-map, length_push, map_push, get_or_append_left, get_or_push, length-set}
-use Rattle.std.proofs.lemmas.Bool.{cases_lt}
+use Rattle.std.proofs.lemmas.Bool.{cases_lt, not-true}
+use Rattle.std.proofs.lemmas.Bool.Decides.{Decides-not}
+use Rattle.std.proofs.lemmas.List.Sums.{position_or_len_is}
 use Rattle.cells.specs.Parts.{cells}
 use Rattle.dayfile.specs.declared.column.Column.{Column}
 use Rattle.dayfile.specs.declared.column.Column.TheVariants.{Call}
 use Rattle.dayfile.specs.Columns.{name_of}
 use Rattle.dayfile.specs.Names.{Among, Distinct, New, Begins, Names, Stops}
-use Rattle.dayfile.specs.Faults.{names_fault}
 use Rattle.dayfile.specs.declared.fault.Fault.{Fault}
+use Rattle.dayfile.specs.declared.fault.Fault.TheVariants as fault
+use Rattle.dayfile.specs.Steps.{is, place_of}
+use Rattle.dayfile.proofs.Columns.{is-Decides}
 use Rattle.dayfile.proofs.Seven.{seven_all}
 
 -- a column that is not among them, put behind them
@@ -32,39 +36,28 @@ begins_push line seen c h n = record {
   once = distinct_push seen c h.once n.fresh;
 }
 
--- the same where the name goes into the next place of an array
-pub begins_set : (line : List ℕ) (cs : List Column) (i : ℕ) (c : Column) → i < length cs → Begins line (take i cs) → New line (take i cs) c → Begins line (take (i + 1) (set cs i c))
-begins_set line cs i c l h n = subst (Begins line) (sym (take_more_set cs i c l)) (begins_push line (take i cs) c h n)
-
 pub begins_none : (line : List ℕ) → Begins line []
 begins_none line = record { names = refl; once = λ j k a b. absurd (omega arith) }
 
--- the loop over the places of the names: `here` is the line as it was cut, and `before` the part of the array that is filled
-module _ (line here : List ℕ) (cs before : List Column) (i : ℕ) (same : here ≡ line) (filled : before ≡ take i cs) (seven : length cs ≡ 7) (h : Begins line (take i cs)) where
+-- the loop over the places of the names
+module _ (line : List ℕ) (cs : List Column) (i : ℕ) (l : i < 7) (seven : length cs ≡ 7) (h : Begins line (take i cs)) where
   -- no new name comes
-  pub names_stop : (f : Fault) → i < 7 → (f ≡ names_fault (length before + 1)) × (length before < 7 → (c : Column) → New here before c → ⊥) → (seen : List Column) × Stops line seen × (f ≡ names_fault (length seen + 1))
-  names_stop f l told =
-      let long : length before ≡ i = ap length filled ∙ length-take-le i cs (omega arith) in (
-        before,
-        record {
-          begins = subst (Begins line) (sym filled) h;
-          next = λ c n. told.1 (omega arith) c (subst (λ t. New t before c) (sym same) n);
-          missing = λ e. omega arith;
-        },
-        told.0,
-      )
+  pub names_stop : (f : Fault) → (f ≡ fault.Names (length (take i cs) + 1)) × (length (take i cs) < 7 → (c : Column) → New line (take i cs) c → ⊥) → (seen : List Column) × Stops line seen × (f ≡ fault.Names (length seen + 1))
+  names_stop f told =
+      let long = length-take-le i cs (omega arith) in
+      (take i cs, record { begins = h; next = told.1 (omega arith); missing = λ e. omega arith }, told.0)
 
   -- one comes, and goes into its place
-  pub names_more : (c : Column) → i < 7 → New here before c → (length (set cs i c) ≡ 7) × Begins line (take (i + 1) (set cs i c))
-  names_more c l n =
-      (length-set cs i c ∙ seven, begins_set line cs i c (omega arith) h (subst (λ t. New line t c) filled (subst (λ t. New t before c) same n)))
+  pub names_more : (c : Column) → New line (take i cs) c → (length (set cs i c) ≡ 7) × Begins line (take (i + 1) (set cs i c))
+  names_more c n =
+      (length-set cs i c ∙ seven, subst (Begins line) (sym (take_more_set cs i c (omega arith))) (begins_push line (take i cs) c h n))
 
 module _ (line : List ℕ) (cs : List Column) (i : ℕ) (end : 7 ≤ i) (seven : length cs ≡ 7) (h : Begins line (take i cs)) where
   all_begin : Begins line cs
   all_begin = subst (Begins line) (take_all i cs (omega arith)) h
 
   -- after seven names no cell is a new one
-  pub names_over : (f : Fault) → 7 < length (cells line) → f ≡ names_fault 8 → (seen : List Column) × Stops line seen × (f ≡ names_fault (length seen + 1))
+  pub names_over : (f : Fault) → 7 < length (cells line) → f ≡ fault.Names 8 → (seen : List Column) × Stops line seen × (f ≡ fault.Names (length seen + 1))
   names_over f more is = (
     cs,
     record {
@@ -72,7 +65,7 @@ module _ (line : List ℕ) (cs : List Column) (i : ℕ) (end : 7 ≤ i) (seven :
       next = λ c n. n.fresh (seven_all cs seven all_begin.once c);
       missing = λ e. absurd (omega arith);
     },
-    is ∙ ap (λ n. names_fault (n + 1)) (sym seven),
+    is ∙ ap (λ n. fault.Names (n + 1)) (sym seven),
   )
 
   pub names_all : length (cells line) ≤ 7 → Names line cs
@@ -88,23 +81,27 @@ module _ (line : List ℕ) (cs : List Column) (i : ℕ) (end : 7 ≤ i) (seven :
   pub names_once : Distinct cs
   names_once = all_begin.once
 
--- a column that stands at a place is found there, and nowhere else
-pub one_place : (cs : List Column) (c : Column) (k p : ℕ) → Distinct cs → k < length cs → get_or cs k Call ≡ c → ((j : ℕ) → j < p → get_or cs j Call ≡ c → ⊥) → (p < length cs → get_or cs p Call ≡ c) → p ≡ k
-one_place cs c k p once l e before found = elim (cases_lt k p) [
-  | inl lower ↦ absurd (before k lower e)
-  | inr upper ↦ elim (cases_lt p k) [
-    | inl less ↦ absurd (once p k less l (found (omega arith) ∙ sym e))
+-- a column stands at one place only
+pub same_place : (cs : List Column) (j k : ℕ) → Distinct cs → j < length cs → k < length cs → get_or cs j Call ≡ get_or cs k Call → j ≡ k
+same_place cs j k once a b e = elim (cases_lt j k) [
+  | inl less ↦ absurd (once j k less b e)
+  | inr more ↦ elim (cases_lt k j) [
+    | inl less ↦ absurd (once k j less a (sym e))
     | inr same ↦ omega arith
   ]
 ]
 
--- a column stands at one place only
-pub same_place : (cs : List Column) (j k : ℕ) → Distinct cs → j < length cs → k < length cs → get_or cs j Call ≡ get_or cs k Call → j ≡ k
-same_place cs j k once a b e = one_place cs (get_or cs j Call) k j once b (sym e) (λ i l m. once i j l a m) (λ l. refl)
+-- a column is found at the place at which it stands
+place_is : (cs : List Column) (c : Column) (k : ℕ) → Distinct cs → k < length cs → get_or cs k Call ≡ c → place_of cs c ≡ k
+place_is cs c k once l e =
+    position_or_len_is (is c) cs k Call (omega arith) (λ j m. not-true _ ((Decides-not _ (is-Decides c (get_or cs j Call))).1 (λ same. once j k m l (sym same ∙ sym e)))) (λ _. (is-Decides c (get_or cs k Call)).1 (sym e))
 
--- a column that stands somewhere is found
-pub found_place : (cs : List Column) (c : Column) (p : ℕ) → Among c cs → ((j : ℕ) → j < p → get_or cs j Call ≡ c → ⊥) → p < length cs
-found_place cs c p among before = elim (cases_lt among.0 p) [
-  | inl l ↦ absurd (before among.0 l among.2)
-  | inr l ↦ omega (arith, among.1)
-]
+-- each of seven different columns stands at one
+module _ (cs : List Column) (once : Distinct cs) (seven : length cs ≡ 7) (c : Column) where
+  pub one_place : (k : ℕ) → k < length cs → get_or cs k Call ≡ c → k ≡ place_of cs c
+  one_place k l e = sym (place_is cs c k once l e)
+
+  pub found_place : (place_of cs c < length cs) × (get_or cs (place_of cs c) Call ≡ c)
+  found_place =
+      let all = seven_all cs seven once c in
+      rw (place_is cs c all.0 once all.1 all.2) (all.1, all.2)

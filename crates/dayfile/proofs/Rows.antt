@@ -1,20 +1,19 @@
 -- Rows and their cells: the steps of the code come to what Rows says.
-use Rattle.std.proofs.Common.{◌≡◌, ℕ, true, List, [], ◌∷◌, ℤ, pos, is_some, Some, None, codes, Option, unwrap_or, sym, refl, ap, ◌∙◌, arith}
+use Rattle.std.proofs.Common.{◌≡◌, ℕ, true, cond, eqb, List, get_or, ℤ, pos, is_some, Some, None, codes, Option, unwrap_or, sym, refl, ap, ◌∙◌, arith}
 use Rattle.cells.specs.Numbers.{number_of}
 use Rattle.std.specs.Str.{bytes_eq}
 use Rattle.std.proofs.lemmas.Slice.Eq.{bytes_eq-Decides}
-use Rattle.std.proofs.lemmas.Bool.Decides.{nat_tests}
+use Rattle.std.proofs.lemmas.Bool.{false≢true}
 use Rattle.dayfile.specs.declared.call.Call.{Call}
 use Rattle.dayfile.specs.declared.call.Call.TheVariants.{Register, File, Round, InForce}
 use Rattle.dayfile.specs.declared.call.RoundKind.TheVariants.{DayAhead, Reliability, DayAfter}
 use Rattle.dayfile.specs.declared.column.Column.{Column}
 use Rattle.dayfile.specs.declared.column.Column.TheVariants as column
-use Rattle.dayfile.specs.declared.figures.Figures.{Figures}
 use Rattle.dayfile.specs.declared.row.Row.{Row}
 use Rattle.dayfile.specs.declared.row.Row.TheVariants as row
-use Rattle.dayfile.specs.Calls.{letter_call, call_of}
-use Rattle.dayfile.specs.Rows.{digit, Holds}
-use Rattle.dayfile.specs.Steps.{good_cell, row_with}
+use Rattle.dayfile.specs.Calls.{letter_of}
+use Rattle.dayfile.specs.Rows.{Holds}
+use Rattle.dayfile.specs.Steps.{uses, good_cell, row_with}
 
 abbrev pub call_in : Row → Call
 call_in (row.Register unit kw price) = Register
@@ -22,83 +21,73 @@ call_in (row.File unit minute from to kw price) = File
 call_in (row.Round kind unit minute price) = Round kind
 call_in (row.InForce unit hour) = InForce
 
--- the text of the call cell
-abbrev pub letter_of : Call → List ℕ
-letter_of Register = codes "R"
-letter_of File = codes "F"
-letter_of (Round kind) = digit kind
-letter_of InForce = codes "Q"
+-- the call whose letter a byte is: no two have one letter
+abbrev lettered : ℕ → Call
+lettered b = cond (eqb b 82) Register (cond (eqb b 70) File (cond (eqb b 49) (Round DayAhead) (cond (eqb b 50) (Round Reliability) (cond (eqb b 51) (Round DayAfter) InForce))))
 
--- each call is read from its text
-pub letter_called : (call : Call) → call_of (letter_of call) ≡ Some call
-letter_called Register = refl
-letter_called File = refl
-letter_called (Round DayAhead) = refl
-letter_called (Round Reliability) = refl
-letter_called (Round DayAfter) = refl
-letter_called InForce = refl
+lettered_letter : (call : Call) → lettered (get_or (letter_of call) 0 0) ≡ call
+lettered_letter Register = refl
+lettered_letter File = refl
+lettered_letter (Round DayAhead) = refl
+lettered_letter (Round Reliability) = refl
+lettered_letter (Round DayAfter) = refl
+lettered_letter InForce = refl
 
--- and from no other
-by_letter : (b : ℕ) (call : Call) → letter_call b ≡ Some call → b ∷ [] ≡ letter_of call
-by_letter b Register e = let is : b ≡ 82 = grind (arith, nat_tests) in ap (λ n. n ∷ []) is
-by_letter b File e = let is : b ≡ 70 = grind (arith, nat_tests) in ap (λ n. n ∷ []) is
-by_letter b (Round DayAhead) e = let is : b ≡ 49 = grind (arith, nat_tests) in ap (λ n. n ∷ []) is
-by_letter b (Round Reliability) e = let is : b ≡ 50 = grind (arith, nat_tests) in ap (λ n. n ∷ []) is
-by_letter b (Round DayAfter) e = let is : b ≡ 51 = grind (arith, nat_tests) in ap (λ n. n ∷ []) is
-by_letter b InForce e = let is : b ≡ 81 = grind (arith, nat_tests) in ap (λ n. n ∷ []) is
+-- two calls of one letter are one
+pub same_letter : (call other : Call) → letter_of call ≡ letter_of other → call ≡ other
+same_letter call other e = sym (lettered_letter call) ∙ ap (λ cell. lettered (get_or cell 0 0)) e ∙ lettered_letter other
 
-pub called_letter : (cell : List ℕ) (call : Call) → call_of cell ≡ Some call → cell ≡ letter_of call
-called_letter [] call e = let z : ◌≡◌ {A = ℕ} 0 1 = cc in absurd (omega arith)
-called_letter (b ∷ []) call e = by_letter b call e
-called_letter (b ∷ (d ∷ bs)) call e = let z : ◌≡◌ {A = ℕ} 0 1 = cc in absurd (omega arith)
-
--- the number read for a column is that of its cell
-abbrev pub FigureAt : Figures → Column → List ℕ → Type 0
-FigureAt f column.Call cell = Unit {0}
-FigureAt f column.Unit cell = f.unit ≡ unwrap_or (number_of cell) (pos 0)
-FigureAt f column.Minute cell = f.minute ≡ unwrap_or (number_of cell) (pos 0)
-FigureAt f column.From cell = f.from ≡ unwrap_or (number_of cell) (pos 0)
-FigureAt f column.To cell = f.to ≡ unwrap_or (number_of cell) (pos 0)
-FigureAt f column.Kw cell = f.kw ≡ unwrap_or (number_of cell) (pos 0)
-FigureAt f column.Price cell = f.price ≡ unwrap_or (number_of cell) (pos 0)
-
-numeral : (o : Option ℤ) (z : ℤ) → is_some o ≡ true → z ≡ unwrap_or o (pos 0) → o ≡ Some z
-numeral None z h e = let n : ◌≡◌ {A = ℕ} 0 1 = cc in absurd (omega arith)
-numeral (Some y) z h e = ap Some (sym e)
+-- what is some number is its value
+numeral : (o : Option ℤ) → is_some o ≡ true → o ≡ Some (unwrap_or o (pos 0))
+numeral None h = let n : ◌≡◌ {A = ℕ} 0 1 = cc in absurd (omega arith)
+numeral (Some y) h = refl
 
 dash : (cell : List ℕ) → bytes_eq cell (codes "-") ≡ true → cell ≡ codes "-"
 dash cell h = (bytes_eq-Decides cell (codes "-")).0 h
 
--- a row made of the numbers of good cells has those cells
-pub good_held : (call : Call) (f : Figures) (c : Column) (cell : List ℕ) → (c ≡ column.Call → cell ≡ letter_of call) → good_cell call c cell ≡ true → FigureAt f c cell → Holds (row_with call f) c cell
-good_held Register f column.Call cell l h e = l refl
-good_held Register f column.Unit cell l h e = numeral _ _ h e
-good_held Register f column.Minute cell l h e = dash cell h
-good_held Register f column.From cell l h e = dash cell h
-good_held Register f column.To cell l h e = dash cell h
-good_held Register f column.Kw cell l h e = numeral _ _ h e
-good_held Register f column.Price cell l h e = numeral _ _ h e
-good_held File f column.Call cell l h e = l refl
-good_held File f column.Unit cell l h e = numeral _ _ h e
-good_held File f column.Minute cell l h e = numeral _ _ h e
-good_held File f column.From cell l h e = numeral _ _ h e
-good_held File f column.To cell l h e = numeral _ _ h e
-good_held File f column.Kw cell l h e = numeral _ _ h e
-good_held File f column.Price cell l h e = numeral _ _ h e
-good_held (Round kind) f column.Call cell l h e = l refl
-good_held (Round kind) f column.Unit cell l h e = numeral _ _ h e
-good_held (Round kind) f column.Minute cell l h e = numeral _ _ h e
-good_held (Round kind) f column.From cell l h e = dash cell h
-good_held (Round kind) f column.To cell l h e = dash cell h
-good_held (Round kind) f column.Kw cell l h e = dash cell h
-good_held (Round kind) f column.Price cell l h e = numeral _ _ h e
-good_held InForce f column.Call cell l h e = l refl
-good_held InForce f column.Unit cell l h e = numeral _ _ h e
-good_held InForce f column.Minute cell l h e = dash cell h
-good_held InForce f column.From cell l h e = numeral _ _ h e
-good_held InForce f column.To cell l h e = dash cell h
-good_held InForce f column.Kw cell l h e = dash cell h
-good_held InForce f column.Price cell l h e = dash cell h
+-- a row made of the numbers of good cells has those cells: each has the number that is given for its column
+pub good_held : (call : Call) (z : Column → ℤ) (c : Column) (cell : List ℕ) → (c ≡ column.Call → cell ≡ letter_of call) → good_cell call c cell ≡ true → z c ≡ unwrap_or (number_of cell) (pos 0) → Holds (row_with call z) c cell
+good_held Register z column.Call cell l h e = l refl
+good_held Register z column.Unit cell l h e = numeral _ h ∙ ap Some (sym e)
+good_held Register z column.Minute cell l h e = dash cell h
+good_held Register z column.From cell l h e = dash cell h
+good_held Register z column.To cell l h e = dash cell h
+good_held Register z column.Kw cell l h e = numeral _ h ∙ ap Some (sym e)
+good_held Register z column.Price cell l h e = numeral _ h ∙ ap Some (sym e)
+good_held File z column.Call cell l h e = l refl
+good_held File z column.Unit cell l h e = numeral _ h ∙ ap Some (sym e)
+good_held File z column.Minute cell l h e = numeral _ h ∙ ap Some (sym e)
+good_held File z column.From cell l h e = numeral _ h ∙ ap Some (sym e)
+good_held File z column.To cell l h e = numeral _ h ∙ ap Some (sym e)
+good_held File z column.Kw cell l h e = numeral _ h ∙ ap Some (sym e)
+good_held File z column.Price cell l h e = numeral _ h ∙ ap Some (sym e)
+good_held (Round kind) z column.Call cell l h e = l refl
+good_held (Round kind) z column.Unit cell l h e = numeral _ h ∙ ap Some (sym e)
+good_held (Round kind) z column.Minute cell l h e = numeral _ h ∙ ap Some (sym e)
+good_held (Round kind) z column.From cell l h e = dash cell h
+good_held (Round kind) z column.To cell l h e = dash cell h
+good_held (Round kind) z column.Kw cell l h e = dash cell h
+good_held (Round kind) z column.Price cell l h e = numeral _ h ∙ ap Some (sym e)
+good_held InForce z column.Call cell l h e = l refl
+good_held InForce z column.Unit cell l h e = numeral _ h ∙ ap Some (sym e)
+good_held InForce z column.Minute cell l h e = dash cell h
+good_held InForce z column.From cell l h e = numeral _ h ∙ ap Some (sym e)
+good_held InForce z column.To cell l h e = dash cell h
+good_held InForce z column.Kw cell l h e = dash cell h
+good_held InForce z column.Price cell l h e = dash cell h
+
+-- a good cell that the call uses is a number
+pub number_of_good : (call : Call) (c : Column) (cell : List ℕ) → uses call c ≡ true → good_cell call c cell ≡ true → is_some (number_of cell) ≡ true
+number_of_good Register column.Call cell used good = absurd (false≢true used)
+number_of_good File column.Call cell used good = absurd (false≢true used)
+number_of_good (Round kind) column.Call cell used good = absurd (false≢true used)
+number_of_good InForce column.Call cell used good = absurd (false≢true used)
+number_of_good call column.Unit cell used good = rw used at good
+number_of_good call column.Minute cell used good = rw used at good
+number_of_good call column.From cell used good = rw used at good
+number_of_good call column.To cell used good = rw used at good
+number_of_good call column.Kw cell used good = rw used at good
+number_of_good call column.Price cell used good = rw used at good
 
 -- a cell that a row has is good for the row's call
 pub held_good : (r : Row) (c : Column) (cell : List ℕ) → Holds r c cell → good_cell (call_in r) c cell ≡ true
@@ -131,16 +120,16 @@ held_good (row.InForce unit hour) column.To cell h = ap (λ l. bytes_eq l (codes
 held_good (row.InForce unit hour) column.Kw cell h = ap (λ l. bytes_eq l (codes "-")) h
 held_good (row.InForce unit hour) column.Price cell h = ap (λ l. bytes_eq l (codes "-")) h
 
--- the call cell that a row has names the row's call
-pub held_called : (r : Row) (cell : List ℕ) → Holds r column.Call cell → call_of cell ≡ Some (call_in r)
-held_called (row.Register unit kw price) cell h = ap call_of h ∙ letter_called Register
-held_called (row.File unit minute from to kw price) cell h = ap call_of h ∙ letter_called File
-held_called (row.Round kind unit minute price) cell h = ap call_of h ∙ letter_called (Round kind)
-held_called (row.InForce unit hour) cell h = ap call_of h ∙ letter_called InForce
+-- the call cell that a row has is the letter of the row's call
+pub held_letter : (r : Row) (cell : List ℕ) → Holds r column.Call cell → cell ≡ letter_of (call_in r)
+held_letter (row.Register unit kw price) cell h = h
+held_letter (row.File unit minute from to kw price) cell h = h
+held_letter (row.Round kind unit minute price) cell h = h
+held_letter (row.InForce unit hour) cell h = h
 
--- a row of a call has the call's text
-pub letter_held : (call : Call) (f : Figures) (cell : List ℕ) → cell ≡ letter_of call → Holds (row_with call f) column.Call cell
-letter_held Register f cell e = e
-letter_held File f cell e = e
-letter_held (Round kind) f cell e = e
-letter_held InForce f cell e = e
+-- a row of a call has the call's letter
+pub letter_held : (call : Call) (z : Column → ℤ) (cell : List ℕ) → cell ≡ letter_of call → Holds (row_with call z) column.Call cell
+letter_held Register z cell e = e
+letter_held File z cell e = e
+letter_held (Round kind) z cell e = e
+letter_held InForce z cell e = e

@@ -1,18 +1,16 @@
 -- Seven different columns are all the columns: none is met twice, and the times that each is met add up.
 use Rattle.std.proofs.Common.{◌≡◌, ℕ, suc, ◌+◌, ◌<◌, ◌≤◌, Bool, true, false, cond, List, [], ◌∷◌, length, sym, refl, ◌∙◌, inl, inr, arith}
-use Rattle.std.specs.Str.{bytes_eq}
-use Rattle.std.proofs.lemmas.Slice.Eq.{bytes_eq-Decides}
 use Rattle.std.proofs.lemmas.Bool.{cases_lt}
 use Rattle.dayfile.specs.declared.column.Column.{Column}
 use Rattle.dayfile.specs.declared.column.Column.TheVariants.{Call, Unit, Minute, From, To, Kw, Price}
-use Rattle.dayfile.specs.Columns.{name_of}
 use Rattle.dayfile.specs.Names.{Among, Distinct}
-use Rattle.dayfile.proofs.Columns.{same_named}
+use Rattle.dayfile.specs.Steps.{is}
+use Rattle.dayfile.proofs.Columns.{is-Decides}
 
 -- how often a column is met
 abbrev times : Column → List Column → ℕ
 times c [] = 0
-times c (d ∷ cs) = cond (bytes_eq (name_of c) (name_of d)) 1 0 + times c cs
+times c (d ∷ cs) = cond (is c d) 1 0 + times c cs
 
 all_times : (cs : List Column) → times Call cs + times Unit cs + times Minute cs + times From cs + times To cs + times Kw cs + times Price cs ≡ length cs
 all_times [] = refl
@@ -27,23 +25,23 @@ all_times (Price ∷ cs) = omega (arith, all_times cs)
 -- what is met stands among them
 met_among : (c : Column) (cs : List Column) → 0 < times c cs → Among c cs
 met_among c [] h = absurd (omega arith)
-met_among c (d ∷ cs) h = at (bytes_eq (name_of c) (name_of d)) refl h (met_among c cs)
+met_among c (d ∷ cs) h = at (is c d) refl h (met_among c cs)
   where
-    at : (v : Bool) → bytes_eq (name_of c) (name_of d) ≡ v → 0 < cond v 1 0 + times c cs → (0 < times c cs → Among c cs) → Among c (d ∷ cs)
-    at true is l rest = (0, omega arith, sym (same_named c d ((bytes_eq-Decides _ _).0 is)))
-    at false is l rest = (let m = rest (omega arith) in (suc m.0, omega (arith, m.1), m.2))
+    at : (v : Bool) → is c d ≡ v → 0 < cond v 1 0 + times c cs → (0 < times c cs → Among c cs) → Among c (d ∷ cs)
+    at true same l rest = (0, omega arith, sym ((is-Decides c d).0 same))
+    at false other l rest = (let m = rest (omega arith) in (suc m.0, omega (arith, m.1), m.2))
 
 -- none of different columns is met twice
 met_once : (c : Column) (cs : List Column) → Distinct cs → times c cs ≤ 1
 met_once c [] h = omega arith
-met_once c (d ∷ cs) h = at (bytes_eq (name_of c) (name_of d)) refl (met_once c cs (λ j k a b. h (suc j) (suc k) (omega arith) (omega arith)))
+met_once c (d ∷ cs) h = at (is c d) refl (met_once c cs (λ j k a b. h (suc j) (suc k) (omega arith) (omega arith)))
   where
-    at : (v : Bool) → bytes_eq (name_of c) (name_of d) ≡ v → times c cs ≤ 1 → cond v 1 0 + times c cs ≤ 1
-    at true is l = elim (cases_lt 0 (times c cs)) [
-      | inl more ↦ (let m = met_among c cs more in absurd (h 0 (suc m.0) (omega arith) (omega (arith, m.1)) (sym (same_named c d ((bytes_eq-Decides _ _).0 is)) ∙ sym m.2)))
+    at : (v : Bool) → is c d ≡ v → times c cs ≤ 1 → cond v 1 0 + times c cs ≤ 1
+    at true same l = elim (cases_lt 0 (times c cs)) [
+      | inl more ↦ (let m = met_among c cs more in absurd (h 0 (suc m.0) (omega arith) (omega (arith, m.1)) (sym ((is-Decides c d).0 same) ∙ sym m.2)))
       | inr none ↦ omega arith
     ]
-    at false is l = omega arith
+    at false other l = omega arith
 
 module _ (cs : List Column) (seven : length cs ≡ 7) (once : Distinct cs) where
   -- where one is never met, the other six are met at most six times

@@ -1,5 +1,5 @@
 -- A line of names, and a line of values, give one answer and no other.
-use Rattle.std.proofs.Common.{◌≡◌, ℕ, ◌+◌, ◌<◌, ◌≤◌, List, [], length, get_or, ℤ, pos, Ok, Err, unwrap_or, sym, ap, ◌∙◌, subst, inl, inr, arith}
+use Rattle.std.proofs.Common.{◌≡◌, ℕ, ◌+◌, ◌<◌, ◌≤◌, List, [], length, get_or, pos, Ok, Err, unwrap_or, sym, ap, ◌∙◌, subst, inl, inr, arith}
 use Rattle.cells.specs.Numbers.{number_of}
 use Rattle.cells.specs.Parts.{cells}
 use Rattle.std.proofs.lemmas.List.{ext_get_or, get_or-map, get_or-take, length-map, length-take}
@@ -7,18 +7,17 @@ use Rattle.std.proofs.lemmas.Bool.{cases_lt}
 use Rattle.dayfile.specs.declared.column.Column.{Column}
 use Rattle.dayfile.specs.declared.column.Column.TheVariants.{Call, Unit, Minute, From, To, Kw, Price}
 use Rattle.dayfile.specs.declared.fault.Fault.{Fault}
-use Rattle.dayfile.specs.declared.figures.Figures.{Figures}
+use Rattle.dayfile.specs.declared.fault.Fault.TheVariants as fault
 use Rattle.dayfile.specs.declared.row.Row.{Row}
 use Rattle.dayfile.specs.declared.row.Row.TheVariants.{Register, File, Round, InForce}
 use Rattle.dayfile.specs.Columns.{name_of}
-use Rattle.dayfile.specs.Faults.{names_fault}
 use Rattle.dayfile.specs.Names.{Among, Distinct, Begins, Names, Stops}
 use Rattle.dayfile.specs.Only.{NamesOnly, RowsOnly}
 use Rattle.dayfile.specs.Rows.{Holds, HasAt, Asks, CallAt, BadCall, BadCell, Wrong}
 use Rattle.dayfile.specs.Steps.{row_with}
 use Rattle.dayfile.proofs.Columns.{same_named}
 use Rattle.dayfile.proofs.Orders.{same_place}
-use Rattle.dayfile.proofs.Rows.{call_in, held_called}
+use Rattle.dayfile.proofs.Rows.{call_in, same_letter, held_letter}
 use Rattle.dayfile.proofs.Seven.{seven_all}
 
 module _ (line : List ℕ) where
@@ -63,16 +62,10 @@ names_only line (Err f) (Err g) p q =
     let a = no_longer line p.0 q.0 p.1 q.1.begins in
     let b = no_longer line q.0 p.0 q.1 p.1.begins in
     let same : length p.0 ≡ length q.0 = omega arith in
-    ap Err (p.2 ∙ ap (λ n. names_fault (n + 1)) same ∙ sym q.2)
-
--- the numbers of the cells under the columns
-abbrev figures_in : (Column → List ℕ) → Figures
-figures_in at =
-    let z : Column → ℤ = λ c. unwrap_or (number_of (at c)) (pos 0) in
-    record { unit = z Unit; minute = z Minute; from = z From; to = z To; kw = z Kw; price = z Price }
+    ap Err (p.2 ∙ ap (λ n. fault.Names (n + 1)) same ∙ sym q.2)
 
 -- a row is that of its call with the numbers of its cells
-row_read : (at : Column → List ℕ) (r : Row) → ((c : Column) → Holds r c (at c)) → row_with (call_in r) (figures_in at) ≡ r
+row_read : (at : Column → List ℕ) (r : Row) → ((c : Column) → Holds r c (at c)) → row_with (call_in r) (λ c. unwrap_or (number_of (at c)) (pos 0)) ≡ r
 row_read at (Register unit kw price) h = rw (h Unit, h Kw, h Price)
 row_read at (File unit minute from to kw price) h = rw (h Unit, h Minute, h From, h To, h Kw, h Price)
 row_read at (Round kind unit minute price) h = rw (h Unit, h Minute, h Price)
@@ -80,7 +73,9 @@ row_read at (InForce unit hour) h = rw (h Unit, h From)
 
 -- two rows with the same cells are one
 same_row : (at : Column → List ℕ) (r s : Row) → ((c : Column) → Holds r c (at c)) → ((c : Column) → Holds s c (at c)) → r ≡ s
-same_row at r s h i = cc (held_called r _ (h Call), held_called s _ (i Call), row_read at r h, row_read at s i)
+same_row at r s h i =
+    let same : call_in r ≡ call_in s = same_letter _ _ (sym (held_letter r _ (h Call)) ∙ held_letter s _ (i Call)) in
+    sym (row_read at r h) ∙ ap (λ call. row_with call (λ c. unwrap_or (number_of (at c)) (pos 0))) same ∙ row_read at s i
 
 -- a line that asks a row is not wrong
 never_wrong : (cs : List Column) (n : ℕ) (line : List ℕ) (row : Row) (f : Fault) → Asks cs line row → Wrong cs n line f → ⊥

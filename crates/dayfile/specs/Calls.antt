@@ -1,21 +1,24 @@
 -- The calls of a day file and their letters.
-use Rattle.std.specs.Prelude.{ℕ, cond, List, [], ◌∷◌, Some, None, Option, ◌==◌}
+use Rattle.std.specs.Prelude.{◌≡◌, ℕ, List, codes, Result, MatchResult, ◌≢◌}
 use Rattle.dayfile.specs.declared.call.Call.{Call}
 use Rattle.dayfile.specs.declared.call.Call.TheVariants.{Register, File, Round, InForce}
+use Rattle.dayfile.specs.declared.call.RoundKind.{RoundKind}
 use Rattle.dayfile.specs.declared.call.RoundKind.TheVariants.{DayAhead, Reliability, DayAfter}
+use Rattle.dayfile.specs.declared.call.UnknownCall.{UnknownCall}
 
--- R (82) register, F (70) file, 1 2 3 (49 to 51) rounds, Q (81) in force
-abbrev pub letter_call : ℕ → Option Call
-letter_call b =
-    cond (b == 82) (Some Register)
-    (cond (b == 70) (Some File)
-    (cond (b == 49) (Some (Round DayAhead))
-    (cond (b == 50) (Some (Round Reliability))
-    (cond (b == 51) (Some (Round DayAfter))
-    (cond (b == 81) (Some InForce) None)))))
+-- the digit of a round
+abbrev pub digit : RoundKind → List ℕ
+digit DayAhead = codes "1"
+digit Reliability = codes "2"
+digit DayAfter = codes "3"
 
--- one byte, and no more
-abbrev pub call_of : List ℕ → Option Call
-call_of [] = None
-call_of (b ∷ []) = letter_call b
-call_of (b ∷ (d ∷ bs)) = None
+-- the letter or digit of a call
+abbrev pub letter_of : Call → List ℕ
+letter_of Register = codes "R"
+letter_of File = codes "F"
+letter_of (Round kind) = digit kind
+letter_of InForce = codes "Q"
+
+-- the call whose letter the cell is, or none where it is no call's
+abbrev pub CallNamed : List ℕ → Result Call UnknownCall → Type 0
+CallNamed cell r = MatchResult r (λ call. cell ≡ letter_of call) (λ _. (call : Call) → cell ≢ letter_of call)

@@ -1,8 +1,8 @@
 -- The columns of a day file and their names.
-use Rattle.std.specs.Prelude.{ℕ, cond, List, [], ◌∷◌, Some, None, codes, Option}
-use Rattle.std.specs.Str.{bytes_eq}
+use Rattle.std.specs.Prelude.{◌≡◌, ℕ, List, [], ◌∷◌, codes, Result, MatchResult, ◌≢◌}
 use Rattle.dayfile.specs.declared.column.Column.{Column}
 use Rattle.dayfile.specs.declared.column.Column.TheVariants.{Call, Unit, Minute, From, To, Kw, Price}
+use Rattle.dayfile.specs.declared.column.UnknownName.{UnknownName}
 
 abbrev pub columns : List Column
 columns = Call ∷ (Unit ∷ (Minute ∷ (From ∷ (To ∷ (Kw ∷ (Price ∷ []))))))
@@ -16,7 +16,6 @@ name_of To = codes "to"
 name_of Kw = codes "kw"
 name_of Price = codes "price"
 
--- the first of some columns with that name
-abbrev pub named : List Column → List ℕ → Option Column
-named [] bs = None
-named (c ∷ cs) bs = cond (bytes_eq bs (name_of c)) (Some c) (named cs bs)
+-- the column with this name, or none where no column has it
+abbrev pub NameRead : List ℕ → Result Column UnknownName → Type 0
+NameRead name r = MatchResult r (λ c. name ≡ name_of c) (λ _. (c : Column) → name ≢ name_of c)

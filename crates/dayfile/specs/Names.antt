@@ -4,8 +4,8 @@ use Rattle.cells.specs.Parts.{cells}
 use Rattle.dayfile.specs.declared.column.Column.{Column}
 use Rattle.dayfile.specs.declared.column.Column.TheVariants.{Call}
 use Rattle.dayfile.specs.declared.fault.Fault.{Fault}
+use Rattle.dayfile.specs.declared.fault.Fault.TheVariants as fault
 use Rattle.dayfile.specs.Columns.{columns, name_of}
-use Rattle.dayfile.specs.Faults.{names_fault}
 
 -- the column stands among these
 abbrev pub Among : Column → List Column → Type 0
@@ -42,4 +42,4 @@ pub record Stops (line : List ℕ) (seen : List Column) : Type 0 where
 -- what a line of names gives: the order of the columns, or fault 21 at the first cell that is no new name, or one past the last
 abbrev pub NamesRead : List ℕ → Result (List Column) Fault → Type 0
 NamesRead line (Ok cs) = Names line cs
-NamesRead line (Err f) = (seen : List Column) × Stops line seen × (f ≡ names_fault (length seen + 1))
+NamesRead line (Err f) = (seen : List Column) × Stops line seen × (f ≡ fault.Names (length seen + 1))

@@ -2,14 +2,13 @@
 use Rattle.std.specs.Prelude.{◌≡◌, ℕ, ◌+◌, ◌<◌, ◌⊎◌, List, [], length, ℤ, Some, Ok, Err, codes, Result, ◌≢◌, slice_index_or}
 use Rattle.cells.specs.Numbers.{number_of}
 use Rattle.cells.specs.Parts.{cells}
-use Rattle.dayfile.specs.declared.call.RoundKind.{RoundKind}
-use Rattle.dayfile.specs.declared.call.RoundKind.TheVariants.{DayAhead, Reliability, DayAfter}
 use Rattle.dayfile.specs.declared.column.Column.{Column}
 use Rattle.dayfile.specs.declared.column.Column.TheVariants.{Call, Unit, Minute, From, To, Kw, Price}
 use Rattle.dayfile.specs.declared.fault.Fault.{Fault}
+use Rattle.dayfile.specs.declared.fault.Fault.TheVariants as fault
 use Rattle.dayfile.specs.declared.row.Row.{Row}
 use Rattle.dayfile.specs.declared.row.Row.TheVariants.{Register, File, Round, InForce}
-use Rattle.dayfile.specs.Faults.{cell_fault, count_fault}
+use Rattle.dayfile.specs.Calls.{digit}
 
 -- a cell with just this text
 abbrev pub Is : List ℕ → List ℕ → Type 0
@@ -28,12 +27,6 @@ under call unit minute from to kw price From = from
 under call unit minute from to kw price To = to
 under call unit minute from to kw price Kw = kw
 under call unit minute from to kw price Price = price
-
--- the digit of a round
-abbrev pub digit : RoundKind → List ℕ
-digit DayAhead = codes "1"
-digit Reliability = codes "2"
-digit DayAfter = codes "3"
 
 abbrev pub blank : List ℕ → Type 0
 blank = Is (codes "-")
@@ -77,9 +70,9 @@ pub record BadCell (cs : List Column) (line : List ℕ) (k : ℕ) : Type 0 where
 -- what is wrong with a line of values, which is line n of its file
 abbrev pub Wrong : List Column → ℕ → List ℕ → Fault → Type 0
 Wrong cs n line f =
-    ((length (cells line) ≢ length cs) × (f ≡ count_fault n (length (cells line))))
-    ⊎ (((k : ℕ) × BadCall cs line k × (f ≡ cell_fault n (k + 1)))
-    ⊎ ((k : ℕ) × BadCell cs line k × (f ≡ cell_fault n (k + 1))))
+    ((length (cells line) ≢ length cs) × (f ≡ fault.CellCount n (length (cells line))))
+    ⊎ (((k : ℕ) × BadCall cs line k × (f ≡ fault.BadCell n (k + 1)))
+    ⊎ ((k : ℕ) × BadCell cs line k × (f ≡ fault.BadCell n (k + 1))))
 
 -- what a line of values gives
 abbrev pub RowRead : List Column → ℕ → List ℕ → Result Row Fault → Type 0

@@ -1,11 +1,12 @@
 ghost use Rattle.std.specs.Prelude.{◌≡◌};
-ghost use Rattle.dayfile.specs.Calls.{call_of, letter_call};
-ghost use Rattle.dayfile.specs.Steps.{uses as uses_column};
+ghost use Rattle.dayfile.specs.Calls.{CallNamed};
+ghost use Rattle.dayfile.specs.Steps.{uses, good_cell};
 
 use crate::column::Column;
+use cells::number::number;
 
 // The rounds in which offers are held against reference prices.
-#[derive(Clone, Copy)]
+#[derive(Clone, Copy, Debug, PartialEq, Eq)]
 pub enum RoundKind {
     // 1: once the day-ahead offers are closed
     DayAhead,
@@ -16,7 +17,7 @@ pub enum RoundKind {
 }
 
 // What a row asks for.
-#[derive(Clone, Copy)]
+#[derive(Clone, Copy, Debug, PartialEq, Eq)]
 pub enum Call {
     Register,
     File,
@@ -24,38 +25,54 @@ pub enum Call {
     InForce,
 }
 
-// The call that a cell of one letter or digit names.
-pub(crate) fn call_of(cell: &[u8]) -> Option<Call>
-    ensures { result ≡ call_of cell.now }
-{
-    match cell {
-        [letter] => letter_call(*letter),
-        _ => None,
+// A cell that names no call.
+#[derive(Clone, Copy, Debug, PartialEq, Eq)]
+pub struct UnknownCall;
+
+impl TryFrom<&[u8]> for Call {
+    type Error = UnknownCall;
+
+    ghost try_from_gives = { λ cell r. CallNamed cell.now r };
+
+    fn try_from(cell: &[u8]) -> Result<Call, UnknownCall> {
+        let [letter] = cell else {
+            return Err(UnknownCall);
+        };
+        match char::from(*letter) {
+            'R' => Ok(Call::Register),
+            'F' => Ok(Call::File),
+            '1' => Ok(Call::Round(RoundKind::DayAhead)),
+            '2' => Ok(Call::Round(RoundKind::Reliability)),
+            '3' => Ok(Call::Round(RoundKind::DayAfter)),
+            'Q' => Ok(Call::InForce),
+            _ => Err(UnknownCall),
+        }
     }
 }
 
-fn letter_call(letter: u8) -> Option<Call>
-    ensures { result ≡ letter_call letter }
-{
-    match char::from(letter) {
-        'R' => Some(Call::Register),
-        'F' => Some(Call::File),
-        '1' => Some(Call::Round(RoundKind::DayAhead)),
-        '2' => Some(Call::Round(RoundKind::Reliability)),
-        '3' => Some(Call::Round(RoundKind::DayAfter)),
-        'Q' => Some(Call::InForce),
-        _ => None,
+impl Call {
+    // Whether a row of this call has a number in this column.
+    fn uses(self, column: Column) -> bool
+        ensures { result ≡ uses self column }
+    {
+        match self {
+            Call::Register => matches!(column, Column::Unit | Column::Kw | Column::Price),
+            Call::File => column != Column::Call,
+            Call::Round(_) => matches!(column, Column::Unit | Column::Minute | Column::Price),
+            Call::InForce => matches!(column, Column::Unit | Column::From),
+        }
     }
-}
 
-// Whether a row of this call has a number in this column.
-pub(crate) fn uses(call: Call, column: Column) -> bool
-    ensures { result ≡ uses_column call column }
-{
-    match call {
-        Call::Register => matches!(column, Column::Unit | Column::Kw | Column::Price),
-        Call::File => !matches!(column, Column::Call),
-        Call::Round(_) => matches!(column, Column::Unit | Column::Minute | Column::Price),
-        Call::InForce => matches!(column, Column::Unit | Column::From),
+    // Whether a cell of this column is as a row of this call wants it.
+    pub(crate) fn accepts(self, column: Column, cell: &[u8]) -> bool
+        ensures { result ≡ good_cell self column cell.now }
+    {
+        if column == Column::Call {
+            true
+        } else if self.uses(column) {
+            number(cell).is_some()
+        } else {
+            cell == b"-".as_slice()
+        }
     }
 }

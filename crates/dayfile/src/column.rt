@@ -1,12 +1,10 @@
-ghost use Rattle.std.specs.Prelude.{◌≡◌};
-ghost use Rattle.dayfile.specs.Columns.{columns, named};
-ghost use Rattle.std.specs.Str.{bytes_eq};
+ghost use Rattle.dayfile.specs.Columns.{NameRead};
 
 // How many columns a day file has.
 pub const COLUMNS: usize = 7;
 
 // The columns of a day file.
-#[derive(Clone, Copy, PartialEq, Eq)]
+#[derive(Clone, Copy, Debug, PartialEq, Eq)]
 pub enum Column {
     Call,
     Unit,
@@ -17,32 +15,38 @@ pub enum Column {
     Price,
 }
 
-// The column that has this name.
-pub(crate) fn column_of(cell: &[u8]) -> Option<Column>
-    ensures { result ≡ named columns cell.now }
-{
-    if same(cell, b"call") {
-        Some(Column::Call)
-    } else if same(cell, b"unit") {
-        Some(Column::Unit)
-    } else if same(cell, b"minute") {
-        Some(Column::Minute)
-    } else if same(cell, b"from") {
-        Some(Column::From)
-    } else if same(cell, b"to") {
-        Some(Column::To)
-    } else if same(cell, b"kw") {
-        Some(Column::Kw)
-    } else if same(cell, b"price") {
-        Some(Column::Price)
-    } else {
-        None
-    }
+// A name that no column has.
+#[derive(Clone, Copy, Debug, PartialEq, Eq)]
+pub struct UnknownName;
+
+impl Column {
+    // All the columns.
+    pub const ALL: [Column; COLUMNS] = [
+        Column::Call,
+        Column::Unit,
+        Column::Minute,
+        Column::From,
+        Column::To,
+        Column::Kw,
+        Column::Price,
+    ];
 }
 
-// Whether a cell holds just this text.
-pub(crate) fn same(cell: &[u8], text: &[u8]) -> bool
-    ensures { result ≡ bytes_eq cell.now text.now }
-{
-    cell == text
+impl TryFrom<&[u8]> for Column {
+    type Error = UnknownName;
+
+    ghost try_from_gives = { λ name r. NameRead name.now r };
+
+    fn try_from(name: &[u8]) -> Result<Column, UnknownName> {
+        match name {
+            b"call" => Ok(Column::Call),
+            b"unit" => Ok(Column::Unit),
+            b"minute" => Ok(Column::Minute),
+            b"from" => Ok(Column::From),
+            b"to" => Ok(Column::To),
+            b"kw" => Ok(Column::Kw),
+            b"price" => Ok(Column::Price),
+            _ => Err(UnknownName),
+        }
+    }
 }

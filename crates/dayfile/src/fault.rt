@@ -1,70 +1,70 @@
 ghost use Rattle.std.specs.Prelude.{◌≡◌};
-ghost use Rattle.dayfile.specs.Faults.{names_fault, cell_fault, count_fault, book_fault};
 
 // The layer that finds a fault.
-#[derive(Clone, Copy)]
+#[derive(Clone, Copy, Debug, PartialEq, Eq)]
 pub enum Layer {
     File,
     Row,
     Book,
 }
 
-// A fault: the layer that finds it, its line, its cell, and its number. Lines and cells count from 1;
-// the cell of 23 is the count of cells, and 0 is no cell.
-#[derive(Clone, Copy)]
-pub struct Fault {
-    pub layer: Layer,
-    pub line: usize,
-    pub cell: usize,
-    pub number: u32,
+// A fault. Lines and cells count from 1, and the line of names is line 1.
+#[derive(Clone, Copy, Debug, PartialEq, Eq)]
+pub enum Fault {
+    // 21: a cell of the line of names is no new name, or names are missing from it on.
+    Names { cell: usize },
+    // 22: a bad cell of a line of values.
+    BadCell { line: usize, cell: usize },
+    // 23: a line of values has not one cell for each column, but `count`.
+    CellCount { line: usize, count: usize },
+    // What the book refuses, with its own number.
+    Refused { line: usize, number: u32 },
 }
 
 impl Fault {
-    // 21: a cell of the first line is no new name, or names are missing.
-    pub fn names(cell: usize) -> Fault
-        ensures { result ≡ names_fault cell }
+    ghost use Rattle.dayfile.specs.Faults.{told};
+
+    pub fn layer(self) -> Layer
+        ensures { result ≡ (told self).layer }
     {
-        Fault {
-            layer: Layer::File,
-            line: 1,
-            cell,
-            number: 21,
+        match self {
+            Fault::Names { .. } => Layer::File,
+            Fault::BadCell { .. } | Fault::CellCount { .. } => Layer::Row,
+            Fault::Refused { .. } => Layer::Book,
         }
     }
 
-    // 22: a bad cell.
-    pub fn bad_cell(line: usize, cell: usize) -> Fault
-        ensures { result ≡ cell_fault line cell }
+    pub fn line(self) -> usize
+        ensures { result ≡ (told self).line }
     {
-        Fault {
-            layer: Layer::Row,
-            line,
-            cell,
-            number: 22,
+        match self {
+            Fault::Names { .. } => 1,
+            Fault::BadCell { line, .. }
+            | Fault::CellCount { line, .. }
+            | Fault::Refused { line, .. } => line,
         }
     }
 
-    // 23: not one cell for each column; `count` cells.
-    pub fn cell_count(line: usize, count: usize) -> Fault
-        ensures { result ≡ count_fault line count }
+    // The cell at fault, or the count of cells. A refusal of the book has cell 0, as the format has it.
+    pub fn cell(self) -> usize
+        ensures { result ≡ (told self).cell }
     {
-        Fault {
-            layer: Layer::Row,
-            line,
-            cell: count,
-            number: 23,
+        match self {
+            Fault::Names { cell } => cell,
+            Fault::BadCell { cell, .. } => cell,
+            Fault::CellCount { count, .. } => count,
+            Fault::Refused { .. } => 0,
         }
     }
 
-    // What the book refuses, with its number.
-    pub fn refused(line: usize, number: u32) -> Fault
-        ensures { result ≡ book_fault line number }
+    pub fn number(self) -> u32
+        ensures { result ≡ (told self).number }
     {
-        Fault {
-            layer: Layer::Book,
-            line,
-            cell: 0,
-            number,
+        match self {
+            Fault::Names { .. } => 21,
+            Fault::BadCell { .. } => 22,
+            Fault::CellCount { .. } => 23,
+            Fault::Refused { number, .. } => number,
         }
     }
 }

@@ -1,7 +1,7 @@
 use crate::call::RoundKind;
 
 // A row of a day file: what it asks, with its numbers.
-#[derive(Clone, Copy)]
+#[derive(Clone, Copy, Debug, PartialEq, Eq)]
 pub enum Row {
     Register {
         unit: i64,

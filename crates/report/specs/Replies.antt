@@ -5,6 +5,7 @@ use Rattle.dayfile.specs.declared.fault.Fault.{Fault}
 use Rattle.dayfile.specs.declared.fault.Layer.{Layer}
 use Rattle.dayfile.specs.declared.fault.Layer.TheVariants.{File, Row, Book}
 use Rattle.dayfile.specs.declared.row.Row as row
+use Rattle.dayfile.specs.Faults.{told}
 use Rattle.report.specs.declared.reply.Reply.{Reply}
 
 -- the names of the printed columns
@@ -17,8 +18,11 @@ shown_cell (Some n) = decimal n
 shown_cell None = codes "-"
 
 -- the line of the file, the answer and the cell, and `-` for the rest
+abbrev pub reply_text : Reply → List ℕ
+reply_text x = decimal x.line ++ (codes "," ++ (decimal x.answer ++ (codes "," ++ (shown_cell x.cell ++ codes ",-,-,-"))))
+
 abbrev pub reply_line : Reply → List ℕ
-reply_line x = decimal x.line ++ (codes "," ++ (decimal x.answer ++ (codes "," ++ (shown_cell x.cell ++ codes ",-,-,-\n"))))
+reply_line x = reply_text x ++ codes "\n"
 
 -- the faults of a file and of a row show their cell, and what the book refuses shows none
 abbrev pub cell_of : Layer → ℕ → Option ℕ
@@ -27,7 +31,7 @@ cell_of Row cell = Some cell
 cell_of Book cell = None
 
 abbrev pub fault_reply : Fault → Reply
-fault_reply f = record { line = f.line; answer = f.number; cell = cell_of f.layer f.cell }
+fault_reply f = let t = told f in record { line = t.line; answer = t.number; cell = cell_of t.layer t.cell }
 
 -- 0 where the row is well formed
 abbrev pub row_reply : ℕ → Result row.Row Fault → Reply

@@ -4,7 +4,7 @@ use Rattle.cells.specs.Parts.{lines}
 use Rattle.dayfile.specs.declared.column.Column.{Column}
 use Rattle.dayfile.specs.declared.entry.Entry.{Entry}
 use Rattle.dayfile.specs.declared.fault.Fault.{Fault}
-use Rattle.dayfile.specs.Faults.{names_fault}
+use Rattle.dayfile.specs.declared.fault.Fault.TheVariants as fault
 use Rattle.dayfile.specs.Files.{name_line}
 use Rattle.dayfile.specs.Names.{NamesRead}
 use Rattle.dayfile.specs.Rows.{RowRead}
@@ -35,7 +35,7 @@ Body bytes out =
 -- a longer file is answered by 21 with cell 0
 abbrev pub Report : List ℕ → List ℕ → Type 0
 Report bytes out =
-    ((limit < length bytes) × (out ≡ header ++ reply_line (fault_reply (names_fault 0))))
+    ((limit < length bytes) × (out ≡ header ++ reply_line (fault_reply (fault.Names 0))))
     ⊎ ((length bytes ≤ limit) × ((body : List ℕ) × Body bytes body × (out ≡ header ++ body)))
 
 -- a file has one report and no other

@@ -1,10 +1,9 @@
 ghost use Rattle.std.specs.Prelude.{◌≡◌, ℕ, ◌+◌, List, ◌++◌, IfOk, string_bytes, OnOk};
 ghost use Rattle.cells.specs.Numbers.{ReadsBack};
 ghost use Rattle.dayfile.specs.Files.{order_in, left};
-ghost use Rattle.report.specs.Replies.{reply_line};
 ghost use Rattle.report.specs.Reports.{limit, EntriesRead, printed, Body, Report, ReportOnly};
 
-use crate::reply::{Reply, entry_reply, fault_reply, reply_line};
+use crate::reply::Reply;
 use dayfile::entry::Entry;
 use dayfile::fault::Fault;
 use dayfile::reader::{RowReader, UnreadFile};
@@ -35,38 +34,31 @@ fn printed_file(heap: Global, bytes: &[u8]) -> Result<String, AllocError>
 {
     let mut out = String::from_str(heap, "line,answer,p,q,r,s\n")?;
     if bytes.len() > LIMIT {
-        add(heap, &mut out, fault_reply(Fault::names(0)))?;
+        // Too long a file is told at cell 0, as the format has it.
+        writeln!(out, "{}", Reply::from(Fault::Names { cell: 0 }))?;
         return Ok(out);
     }
-    add_file(heap, &mut out, bytes)?;
+    add_file(&mut out, bytes)?;
     Ok(out)
 }
 
 // Adds what is printed behind the header.
-fn add_file(heap: Global, out: &mut String, bytes: &[u8]) -> Result<(), AllocError>
+fn add_file(out: &mut String, bytes: &[u8]) -> Result<(), AllocError>
     ensures { OnOk result ((body : List ℕ) × Body bytes.now body × (string_bytes out.new ≡ string_bytes out.old ++ body)) }
 {
     let file = UnreadFile::new(bytes);
     if let Err(fault) = file.names() {
-        return add(heap, out, fault_reply(fault));
+        return writeln!(out, "{}", Reply::from(fault));
     }
-    add_rows(heap, out, file.rows())
+    add_rows(out, file.rows())
 }
 
 // Adds a line for each row that is left.
-fn add_rows(heap: Global, out: &mut String, mut rows: RowReader<'_>) -> Result<(), AllocError>
+fn add_rows(out: &mut String, rows: RowReader<'_>) -> Result<(), AllocError>
     ensures { OnOk result ((es : List Entry) × EntriesRead (order_in rows.entry) (rows.entry.read + 2) (left rows.entry) es × (string_bytes out.new ≡ string_bytes out.old ++ printed es)) }
 {
-    while let Some(entry) = rows.next_row() {
-        add(heap, out, entry_reply(entry))?;
+    for entry in rows {
+        writeln!(out, "{}", Reply::from(entry))?;
     }
     Ok(())
-}
-
-// Adds one printed line.
-fn add(heap: Global, out: &mut String, reply: Reply) -> Result<(), AllocError>
-    ensures { OnOk result (string_bytes out.new ≡ string_bytes out.old ++ reply_line reply) }
-{
-    let line = reply_line(heap, reply)?;
-    out.push_str(line.as_str())
 }

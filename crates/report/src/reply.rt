@@ -1,66 +1,61 @@
-ghost use Rattle.std.specs.Prelude.{◌≡◌, ◌++◌, IfOk, string_bytes, codes, decimal};
-ghost use Rattle.report.specs.Replies.{shown_cell, reply_line, fault_reply, entry_reply};
+ghost use Rattle.std.specs.Prelude.{◌≡◌, Some};
+ghost use Rattle.report.specs.Replies.{reply_text, fault_reply, entry_reply};
 
 use dayfile::entry::Entry;
 use dayfile::fault::{Fault, Layer};
-use std::alloc::{AllocError, Global};
+use std::fmt;
 
 // A printed line: the line of the file that it answers, 0 or a fault's number, and the cell at fault.
-#[derive(Clone, Copy)]
+// The answer is a number, as the format has it: a book brings its own.
+#[derive(Clone, Copy, Debug, PartialEq, Eq)]
 pub struct Reply {
     pub line: usize,
     pub answer: u32,
     pub cell: Option<usize>,
 }
 
-// The reply to a fault.
-pub fn fault_reply(fault: Fault) -> Reply
-    ensures { result ≡ fault_reply fault }
-{
-    let cell = match fault.layer {
-        Layer::File | Layer::Row => Some(fault.cell),
-        Layer::Book => None,
-    };
-    Reply {
-        line: fault.line,
-        answer: fault.number,
-        cell,
+impl From<Fault> for Reply {
+    ghost from_gives = { λ fault reply. reply ≡ fault_reply fault };
+
+    fn from(fault: Fault) -> Reply {
+        let cell = match fault.layer() {
+            Layer::File | Layer::Row => Some(fault.cell()),
+            Layer::Book => None,
+        };
+        Reply {
+            line: fault.line(),
+            answer: fault.number(),
+            cell,
+        }
     }
 }
 
-// The reply to a row: 0 where it is well formed.
-pub fn entry_reply(entry: Entry) -> Reply
-    ensures { result ≡ entry_reply entry }
-{
-    match entry.row {
-        Ok(_) => Reply {
-            line: entry.line,
-            answer: 0,
-            cell: None,
-        },
-        Err(fault) => fault_reply(fault),
+// 0 where the row is well formed.
+impl From<Entry> for Reply {
+    ghost from_gives = { λ entry reply. reply ≡ entry_reply entry };
+
+    fn from(entry: Entry) -> Reply {
+        match entry.row {
+            Ok(_) => Reply {
+                line: entry.line,
+                answer: 0,
+                cell: None,
+            },
+            Err(fault) => Reply::from(fault),
+        }
     }
 }
 
-// The text of a printed line, with its line feed.
-pub fn reply_line(heap: Global, reply: Reply) -> Result<String, AllocError>
-    ensures { IfOk result (λ s. string_bytes s ≡ reply_line reply) }
-{
-    let cell = cell_text(heap, reply.cell)?;
-    laid_out(heap, reply.line, reply.answer, cell.as_str())
-}
+// Without a line feed.
+impl fmt::Display for Reply {
+    ghost output = { λ reply. Some (reply_text reply) };
 
-fn cell_text(heap: Global, cell: Option<usize>) -> Result<String, AllocError>
-    ensures { IfOk result (λ s. string_bytes s ≡ shown_cell cell) }
-{
-    match cell {
-        Some(n) => format!(in heap; "{n}"),
-        None => String::from_str(heap, "-"),
+    fn fmt<W: fmt::Write>(&self, f: &mut fmt::Formatter<W>) -> fmt::Result {
+        let line = self.line;
+        let answer = self.answer;
+        match self.cell {
+            Some(cell) => write!(f, "{line},{answer},{cell},-,-,-"),
+            None => write!(f, "{line},{answer},-,-,-,-"),
+        }
     }
-}
-
-fn laid_out(heap: Global, line: usize, answer: u32, cell: &str) -> Result<String, AllocError>
-    ensures { IfOk result (λ s. string_bytes s ≡ decimal line ++ (codes "," ++ (decimal answer ++ (codes "," ++ (cell.now ++ codes ",-,-,-\n"))))) }
-{
-    format!(in heap; "{line},{answer},{cell},-,-,-\n")
 }

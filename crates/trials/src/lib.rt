@@ -4,6 +4,7 @@
 #[cfg(test)]
 mod tests {
     use cells::line::CutLine;
+    use dayfile::entry::Entry;
     use dayfile::reader::UnreadFile;
     use dayfile::row::Row;
     use report::file::report;
@@ -226,9 +227,7 @@ mod tests {
     // A file of just this many bytes: the names and one long cell.
     fn file_of(rt: &(impl Abort + AllocGlobal), count: usize, lines: &str) -> Result<(), Fail> {
         let mut file = b"call,unit,minute,from,to,kw,price\n".to_vec(rt.alloc())?;
-        for _ in file.len()..count {
-            file.push(b'x')?;
-        }
+        file.resize(count, b'x')?;
         assert_eq!(rt; file.len(), count);
         file_prints(rt, file.as_slice(), lines)
     }
@@ -243,17 +242,10 @@ mod tests {
     #[test]
     fn most_rows(rt: HostRuntime) -> Result<(), Fail> {
         let mut file = b"call,unit,minute,from,to,kw,price\n".to_vec(rt.alloc())?;
-        for _ in file.len()..65_536 {
-            file.push(b'\n')?;
-        }
+        file.resize(65_536, b'\n')?;
         let printed = report(rt.alloc(), file.as_slice())?;
-        let mut count = 0usize;
-        for byte in printed.as_bytes() {
-            if *byte == b'\n' {
-                count = count.saturating_add(1);
-            }
-        }
-        assert_eq!(rt; count, 65_503);
+        let line_feeds = printed.as_bytes().iter().filter(|b| **b == b'\n');
+        assert_eq!(rt; line_feeds.count(), 65_503);
         Ok(())
     }
 
@@ -261,7 +253,7 @@ mod tests {
     #[test]
     fn rows_of_refused_names(rt: HostRuntime) -> Result<(), Fail> {
         let mut rows = UnreadFile::new(b"call,unit\nQ,0,-,12,-,-,-\n").rows();
-        assert!(rt; rows.next_row().is_none());
+        assert!(rt; rows.next().is_none());
         Ok(())
     }
 
@@ -271,29 +263,21 @@ mod tests {
         let mut rows = UnreadFile::new(
             b"price,kw,to,from,minute,unit,call\n6,5,4,3,-2,1,F\n",
         ).rows();
-        let Some(entry) = rows.next_row() else {
-            panic!(rt; "no row is read");
+        let row = Row::File {
+            unit: 1,
+            minute: -2,
+            from: 3,
+            to: 4,
+            kw: 5,
+            price: 6,
         };
-        let Ok(
-            Row::File {
-                unit,
-                minute,
-                from,
-                to,
-                kw,
-                price,
-            },
-        ) = entry.row
-        else {
-            panic!(rt; "another row is read");
-        };
-        assert_eq!(rt; entry.line, 2);
-        assert_eq!(rt; unit, 1);
-        assert_eq!(rt; minute, -2);
-        assert_eq!(rt; from, 3);
-        assert_eq!(rt; to, 4);
-        assert_eq!(rt; kw, 5);
-        assert_eq!(rt; price, 6);
+        assert_eq!(rt;
+            rows.next(),
+            Some(Entry {
+                line: 2,
+                row: Ok(row)
+            })
+        );
         Ok(())
     }
 
