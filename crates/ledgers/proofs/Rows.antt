@@ -33,6 +33,13 @@ pub no_items : {X : Type 0} (xs : List X) → length xs ≡ 0 → xs ≡ []
 no_items [] e = refl
 no_items (x ∷ xs) e = absurd (let q : ⊥ = omega arith in q)
 
+-- a place below the length of a list is of a unit that there is
+pub counted_inside : (units n u p : ℕ) → p < cond (ltb u units) n 0 → (u < units) × (p < n)
+counted_inside units n u p lt = ⊎_elim
+    (λ (t : (ltb u units ≡ true) × (u < units)). (t.1, omega (arith, lt, ap (λ b. cond b n 0) t.0)))
+    (λ (t : (ltb u units ≡ false) × (units < suc u)). absurd (let f : ⊥ = omega (arith, lt, ap (λ b. cond b n 0) t.0) in f))
+    (leb_tells (suc u) units)
+
 module _ {X : Type 0} where
   window_before : (a n : ℕ) (xs : List X) (i : ℕ) (x : X) → a + n ≤ i → take n (drop a (set xs i x)) ≡ take n (drop a xs)
   window_before a n xs i x le =
@@ -101,6 +108,13 @@ module _ {X : Type 0} where
   row_length xs lens k units u lt most fits =
       let far : u * k + k ≤ units * k = rows_apart u units k lt in
       ap length (row_known xs lens k units u lt) ∙ simp (length-take, length-drop) (omega arith)
+
+  -- how long each row is, also one that there is not
+  pub row_count : (xs : List X) (lens : List ℕ) (k units u : ℕ) → get_or lens u 0 ≤ k → units * k ≤ length xs → length (row xs lens k units u) ≡ cond (ltb u units) (get_or lens u 0) 0
+  row_count xs lens k units u most fits = ⊎_elim
+      (λ (t : (ltb u units ≡ true) × (u < units)). row_length xs lens k units u t.1 most fits ∙ sym (ap (λ b. cond b (get_or lens u 0) 0) t.0))
+      (λ (t : (ltb u units ≡ false) × (units < suc u)). ap length (row_unknown xs lens k units u (omega (arith, t.1))) ∙ sym (ap (λ b. cond b (get_or lens u 0) 0) t.0))
+      (leb_tells (suc u) units)
 
   -- what stands at place p of row u
   pub row_at : (xs : List X) (lens : List ℕ) (k units u p : ℕ) (x : X) → u < units → get_or lens u 0 ≤ k → units * k ≤ length xs → p < get_or lens u 0 → x ≡ get_or xs (u * k + p) x → Some x ≡ slice_get (row xs lens k units u) p

@@ -10,7 +10,7 @@ use Rattle.tapes.specs.Slots.{filings}
 module _ {B : Type 0} where
   -- the lists that the slots written so far stand for
   abbrev pub taped : Tape B → Held B
-  taped s = record { units = s.size.units; places = s.size.places; list = filings (take s.used s.slots.now) }
+  taped s = record { units = s.lengths.size.units; places = s.lengths.size.places; list = filings (take s.used s.slots.now) }
 
   -- the same slots with the write in the next one
   abbrev pub tape_writes : Tape B → Write B → Tape B → Type 0
@@ -24,9 +24,9 @@ module _ {B : Type 0} where
 
   pub tape_bounded : (s : Tape B) → Bounded (taped s)
   tape_bounded s = record {
-    few = s.size.few;
-    narrow = s.size.narrow;
-    both = both_of s.size.units s.size.places s.size.wide s.size.some;
+    few = s.lengths.size.few;
+    narrow = s.lengths.size.narrow;
+    both = both_of s.lengths.size.units s.lengths.size.places s.lengths.size.wide s.lengths.size.some;
     short = s.short;
     none = λ u h. no_items ((taped s).list u) (s.none u h);
   }
