@@ -2,7 +2,7 @@ ghost use Rattle.std.specs.Prelude.{◌≡◌, ℕ, ◌+◌, ◌*◌, ◌<◌, �
 
 use crate::size::Size;
 
-// A ledger's size, and how many filings each unit's list has.
+// A ledger's size, and how many filings each unit's list has. The array has room for every size, since no memory is allocated.
 #[derive(Drop)]
 pub struct Lengths {
     size: Size,

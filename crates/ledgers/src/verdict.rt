@@ -11,13 +11,14 @@ pub enum Verdict {
 }
 
 impl Verdict {
+    // A method, as each refusal has its number.
     pub fn number(self) -> i64
         ensures { result ≡ verdict_number self }
     {
         self as i64
     }
 
-    // The verdict of a round that has this number, from 1 to 3.
+    // The verdict of a round that has this number, from 1 to 3. A `TryFrom` would take 0 too.
     pub fn of_round(number: i64) -> Option<Verdict>
         ensures value { result ≡ judgement number }
         ensures told { OfRound number result }

@@ -2,6 +2,7 @@
 use Rattle.std.proofs.Common.{◌≡◌, ℕ, ◌+◌, ◌*◌, ◌<◌, ◌≤◌, max, Bool, true, false, cond, eqb, ltb, List, [], ◌∷◌, ◌++◌, length, get_or, take, set, Some, None, sym, refl, ap, ◌∙◌, subst, ⊎_elim, mul-le-mul, mul-le-mul_left, mul_left_comm, arith, length-take, get_or-set_other, get_or-set_same}
 use Rattle.std.proofs.Math.Path.{fun_ext}
 use Rattle.std.proofs.lemmas.List.{take_more_set, take-set, take-set-le, get_or_default}
+use Rattle.std.proofs.Math.Arith.{lt_of_le-ne}
 use Rattle.std.proofs.lemmas.Option.{slice_get_past}
 use Rattle.std.proofs.lemmas.Bool.Decides.{eqb_tells}
 use Rattle.std.specs.List.{slice_get}
@@ -14,7 +15,7 @@ use Rattle.ledgers.proofs.Rows.{rows_apart, rows_written, row_count, row_length,
 use Rattle.tapes.specs.declared.tape.Tape.{Tape}
 use Rattle.tapes.specs.Slots.{total, filings, counting, spent_on, Orderly}
 use Rattle.tapes.specs.Tapes.{taped}
-use Rattle.tapes.proofs.Slots.{ne_lt, total_more, total_most, made_most, put_short, list_more, filings_length, short_list, no_list}
+use Rattle.tapes.proofs.Slots.{total_more, total_most, made_most, put_short, list_more, filings_length, short_list, no_list}
 
 -- a choice by the unit
 here_or : {X : Type 0} (P : ℕ → X) (Q : X → X) (v u : ℕ) → cond (eqb v u) (Q (P v)) (P v) ≡ cond (eqb v u) (Q (P u)) (P v)
@@ -172,7 +173,7 @@ module _ {B : Type 0} (s : Tape B) (w : Write B) (fit : Fits (taped s) w) where
       subst (λ l. (get_or slots j d).place ≤ length (counting l (get_or slots j d).unit)) (sym those)
       (subst (λ x. x.place ≤ length (counting ws x.unit)) (sym it) (omega (arith, fit.within, filings_length ws u))))
       (λ (e : (eqb j i ≡ false) × (j ≡ i → ⊥)).
-      let less : j < i = ne_lt i j (omega arith) (λ q. e.1 (sym q)) in
+      let less : j < i = lt_of_le-ne (omega arith) e.1 in
       let it : get_or slots j d ≡ get_or s.slots.now j d = get_or-set_other s.slots.now i j w d e.1 in
       let those : take j slots ≡ take j s.slots.now = take-set-le j s.slots.now i w (omega arith) in
       subst (λ l. (get_or slots j d).place ≤ length (counting l (get_or slots j d).unit)) (sym those)

@@ -3,7 +3,7 @@ use Rattle.std.specs.Prelude.{◌≡◌, ℕ, ◌+◌, List, ◌++◌, length, t
 use Rattle.ledgers.specs.declared.write.Write.{Write}
 use Rattle.ledgers.specs.Held.{Held, Bounded}
 use Rattle.ledgers.specs.Sizes.{both_of}
-use Rattle.ledgers.proofs.Rows.{no_items}
+use Rattle.std.proofs.lemmas.List.{nil_from_length}
 use Rattle.tapes.specs.declared.tape.Tape.{Tape}
 use Rattle.tapes.specs.Slots.{filings}
 
@@ -28,5 +28,5 @@ module _ {B : Type 0} where
     narrow = s.lengths.size.narrow;
     both = both_of s.lengths.size.units s.lengths.size.places s.lengths.size.wide s.lengths.size.some;
     short = s.short;
-    none = λ u h. no_items ((taped s).list u) (s.none u h);
+    none = λ u h. nil_from_length ((taped s).list u) (s.none u h);
   }

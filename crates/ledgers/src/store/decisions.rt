@@ -49,8 +49,8 @@ pub(crate) fn marking<B: Copy, S: Store<B>>(
 {
     let u = below(unit, store.unit_count()).ok_or(LedgerRefusal::UnknownUnit)?;
     let p = natural(place).ok_or(LedgerRefusal::NotMarkable)?;
-    let f = store.filing(u, p).ok_or(LedgerRefusal::NotMarkable)?;
-    let filing = f.judged(verdict, round).ok_or(LedgerRefusal::NotMarkable)?;
+    let judged = store.filing(u, p).and_then(|f| f.judged(verdict, round));
+    let filing = judged.ok_or(LedgerRefusal::NotMarkable)?;
     Ok(Write {
         unit: u,
         place: p,

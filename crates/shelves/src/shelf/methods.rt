@@ -8,7 +8,7 @@ use ledgers::lengths::Lengths;
 use ledgers::size::{Size, check_size};
 use refusals::ledger::LedgerRefusal;
 
-// Whether a shelf can have this size over this many slots: 1 where no ledger has the size, 2 where there are fewer slots than units times places.
+// Whether a shelf can have this size over this many slots: 1 where no ledger has the size, 2 where there are fewer slots than units times places. Each ledger has its own: a type with a lifetime gets no proof of a trait's constant.
 pub fn check(units: i64, places: i64, slots: usize) -> Result<(), LedgerRefusal>
     ensures { result ≡ size_answer units places 1 slots }
 {

@@ -10,7 +10,7 @@ use ledgers::size::{Size, check_size};
 use ledgers::write::Write;
 use refusals::ledger::LedgerRefusal;
 
-// Whether a tape can have this size over this many slots: 1 where no ledger has the size, 2 where there are fewer slots than twice units times places.
+// Whether a tape can have this size over this many slots: 1 where no ledger has the size, 2 where there are fewer slots than twice units times places. Each ledger has its own: a type with a lifetime gets no proof of a trait's constant.
 pub fn check(units: i64, places: i64, slots: usize) -> Result<(), LedgerRefusal>
     ensures { result ≡ size_answer units places 2 slots }
 {
