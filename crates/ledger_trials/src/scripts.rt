@@ -65,7 +65,7 @@ fn add(unit: i64, minute: i64, body: i64) -> Entry<i64> {
     Entry::Add { unit, submission }
 }
 
-fn mark(unit: i64, place: i64, verdict: i64, round: i64) -> Entry<i64> {
+pub(crate) fn mark(unit: i64, place: i64, verdict: i64, round: i64) -> Entry<i64> {
     Entry::Mark {
         unit,
         place,

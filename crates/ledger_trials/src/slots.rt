@@ -1,3 +1,4 @@
+use crate::scripts::mark;
 use entries::entry::Entry;
 use entries::lent::{enter_on_shelf, enter_on_tape};
 use ledgers::filing::{Filing, Submission};
@@ -25,15 +26,6 @@ fn add(unit: i64, minute: i64, body: i64) -> Entry<i64> {
     Entry::Add {
         unit,
         submission: submission(minute, body),
-    }
-}
-
-fn mark(unit: i64, place: i64, verdict: i64, round: i64) -> Entry<i64> {
-    Entry::Mark {
-        unit,
-        place,
-        verdict,
-        round,
     }
 }
 

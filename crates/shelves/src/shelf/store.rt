@@ -14,6 +14,7 @@ impl<'a, B: Copy> Store<B> for Shelf<'a, B> {
 
     ghost limits = { shelf_bounded };
 
+    // These three stand in each store, since one of another make may count otherwise.
     fn unit_count(&self) -> usize {
         self.lengths.units()
     }
