@@ -4,6 +4,7 @@ use Rattle.refusals.specs.declared.ledger.LedgerRefusal.{LedgerRefusal}
 use Rattle.ledgers.specs.declared.write.Write.{Write}
 use Rattle.ledgers.specs.Held.{Held}
 use Rattle.ledgers.specs.Writes.{Wrote, Trace}
+use Rattle.ledgers.proofs.Steps.{clash}
 use Rattle.ledgers.proofs.Traces.{trace_join}
 use Rattle.entries.specs.declared.entry.Entry.{Entry}
 use Rattle.entries.specs.Entries.{entered, after_entry, held_after, with_write, writes_of}
@@ -23,10 +24,10 @@ module _ {B : Type 0} where
 
   with_one : (r : Result (Write B) LedgerRefusal) → is_ok r ≡ true → length (with_write r []) ≡ 1
   with_one (Ok w) is = refl
-  with_one (Err e) is = let z : ◌≡◌ {A = ℕ} 0 1 = cc in absurd (let q : ⊥ = omega arith in q)
+  with_one (Err e) is = clash cc
 
   with_none : (r : Result (Write B) LedgerRefusal) → is_ok r ≡ false → length (with_write r []) ≡ 0
-  with_none (Ok w) is = let z : ◌≡◌ {A = ℕ} 0 1 = cc in absurd (let q : ⊥ = omega arith in q)
+  with_none (Ok w) is = clash cc
   with_none (Err e) is = refl
 
 module _ {B S : Type 0} (W : S → Write B → S → Type 0) (holds : S → Held B) where

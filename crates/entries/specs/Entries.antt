@@ -10,11 +10,11 @@ use Rattle.entries.specs.declared.entry.Entry.TheVariants.{Add, Mark}
 module _ {B : Type 0} where
   -- the write that it makes, or its refusal
   abbrev pub entered : Held B → Entry B → Result (Write B) LedgerRefusal
-  entered h (Add unit minute first last body) = add_of h unit (waiting minute first last body)
+  entered h (Add unit submission) = add_of h unit (waiting submission)
   entered h (Mark unit place verdict round) = mark_of h unit place verdict round
 
   abbrev pub after_entry : Held B → Entry B → Held B
-  after_entry h (Add unit minute first last body) = after_add h (add_of h unit (waiting minute first last body))
+  after_entry h (Add unit submission) = after_add h (add_of h unit (waiting submission))
   after_entry h (Mark unit place verdict round) = after_mark h (mark_of h unit place verdict round)
 
   -- what a ledger holds after all of them

@@ -12,13 +12,7 @@ pub fn enter<B: Copy, L: Ledger<B>>(ledger: &mut L, entry: Entry<B>) -> bool
     ensures wrote { Wrote L.Ledger.writes ledger.old (entered (L.Ledger.held ledger.old) entry) ledger.new }
 {
     match entry {
-        Entry::Add {
-            unit,
-            minute,
-            first,
-            last,
-            body,
-        } => ledger.add(unit, minute, first, last, body).is_ok(),
+        Entry::Add { unit, submission } => ledger.add(unit, submission).is_ok(),
         Entry::Mark {
             unit,
             place,

@@ -1,12 +1,11 @@
+use ledgers::filing::Submission;
+
 // An add or a mark, with what it brings.
-#[derive(Clone, Copy)]
+#[derive(Clone, Copy, Debug, PartialEq, Eq)]
 pub enum Entry<B> {
     Add {
         unit: i64,
-        minute: i64,
-        first: i64,
-        last: i64,
-        body: B,
+        submission: Submission<B>,
     },
     Mark {
         unit: i64,

@@ -26,6 +26,7 @@ pub fn enter_on_shelf<B: Copy>(
 }
 
 // The same on a new tape: its first slots are the writes in their order, and the others hold what they held.
+// One function for both would take the ledger's type by a bound, and what lent slots then end as is not known.
 pub fn enter_on_tape<B: Copy>(
     units: i64,
     places: i64,

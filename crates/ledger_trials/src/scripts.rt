@@ -1,7 +1,8 @@
 use curves::steps::{Step, Steps};
 use entries::entry::Entry;
-use ledgers::filing::{Filing, Head};
+use ledgers::filing::{Filing, Submission};
 use ledgers::ledger::Ledger;
+use ledgers::verdict::Verdict;
 use ledgers::write::Write;
 use offers::kind::Kind;
 use shelves::shelf::Shelf;
@@ -12,34 +13,32 @@ use thermal::Thermal;
 
 // What an add or a mark answers: the number of its refusal, or 0 and the place.
 fn answer<B: Copy, L: Ledger<B>>(ledger: &mut L, entry: Entry<B>) -> (u32, i64) {
-    match entry {
-        Entry::Add {
-            unit,
-            minute,
-            first,
-            last,
-            body,
-        } => match ledger.add(unit, minute, first, last, body) {
-            Ok(place) => (0, place),
-            Err(refusal) => (u32::from(refusal), -1),
-        },
+    let told = match entry {
+        Entry::Add { unit, submission } => ledger.add(unit, submission),
         Entry::Mark {
             unit,
             place,
             verdict,
             round,
-        } => match ledger.mark(unit, place, verdict, round) {
-            Ok(()) => (0, place),
-            Err(refusal) => (u32::from(refusal), -1),
-        },
+        } => ledger.mark(unit, place, verdict, round).map(|_| place),
+    };
+    match told {
+        Ok(place) => (0, place),
+        Err(refusal) => (u32::from(refusal), -1),
     }
 }
 
-// Minute, hours, number of the verdict and round of a filing, if there is one.
-fn shown(head: Option<Head>) -> Option<(i64, i64, i64, i64, i64)> {
-    match head {
-        Some(h) => Some((h.minute, h.first, h.last, h.verdict.number(), h.round)),
-        None => None,
+// A filing without its body.
+fn head(minute: i64, first: i64, last: i64, verdict: Verdict, round: i64) -> Filing<()> {
+    Filing {
+        submission: Submission {
+            minute,
+            first,
+            last,
+            body: (),
+        },
+        verdict,
+        round,
     }
 }
 
@@ -50,23 +49,23 @@ fn alike<L: Ledger<i64>, M: Ledger<i64>>(rt: &impl Abort, a: &L, b: &M) {
     for unit in -1..33 {
         assert_eq!(rt; a.length(unit), b.length(unit));
         for place in -1..66 {
-            assert_eq!(rt; shown(a.head(unit, place)), shown(b.head(unit, place)));
+            assert_eq!(rt; a.head(unit, place), b.head(unit, place));
             assert_eq!(rt; a.body(unit, place, -7), b.body(unit, place, -7));
         }
     }
 }
 
 fn add(unit: i64, minute: i64, body: i64) -> Entry<i64> {
-    Entry::Add {
-        unit,
+    let submission = Submission {
         minute,
         first: body,
         last: unit,
         body,
-    }
+    };
+    Entry::Add { unit, submission }
 }
 
-fn mark(unit: i64, place: i64, verdict: i64, round: i64) -> Entry<i64> {
+pub(crate) fn mark(unit: i64, place: i64, verdict: i64, round: i64) -> Entry<i64> {
     Entry::Mark {
         unit,
         place,
@@ -76,18 +75,27 @@ fn mark(unit: i64, place: i64, verdict: i64, round: i64) -> Entry<i64> {
 }
 
 const OLD: Filing<i64> = Filing {
-    minute: 900,
-    first: 90,
-    last: 9,
-    body: 99,
-    verdict: ledgers::verdict::Verdict::Capped,
+    submission: Submission {
+        minute: 900,
+        first: 90,
+        last: 9,
+        body: 99,
+    },
+    verdict: Verdict::Capped,
     round: 5,
 };
 
-// Two units of three places each, over slots that hold something already: each entry with its number and place.
-#[test]
-fn one_script(rt: HostRuntime) {
-    let table = [
+const OLD_WRITE: Write<i64> = Write {
+    unit: 0,
+    place: 0,
+    filing: OLD,
+};
+
+// Entries with the number and the place that each is answered: two units of three places each.
+const STEPS: usize = 32;
+
+fn steps() -> [(Entry<i64>, u32, i64); STEPS] {
+    [
         (add(-1, 1, 10), 6, -1),
         (add(2, 1, 10), 6, -1),
         (add(i64::MIN, 1, 10), 6, -1),
@@ -120,55 +128,56 @@ fn one_script(rt: HostRuntime) {
         (add(1, 0, 17), 16, -1),
         (mark(1, 2, 1, 4), 0, 2),
         (mark(1, 1, 2, 5), 0, 1),
-    ];
+    ]
+}
+
+// Over slots that hold something already, both ledgers answer each entry so, and then every question alike.
+#[test]
+fn one_script(rt: HostRuntime) {
     let mut shelf_slots = [OLD; 6];
-    let mut tape_slots = [Write {
-        unit: 0,
-        place: 0,
-        filing: OLD,
-    }; 12];
+    let mut tape_slots = [OLD_WRITE; 12];
     let mut shelf = Shelf::new(2, 3, &mut shelf_slots);
     let mut tape = Tape::new(2, 3, &mut tape_slots);
     alike(&rt, &shelf, &tape);
-    for (entry, number, place) in table {
+    for (entry, number, place) in steps() {
         assert_eq!(rt; answer(&mut shelf, entry), (number, place));
         assert_eq!(rt; answer(&mut tape, entry), (number, place));
         alike(&rt, &shelf, &tape);
     }
     assert_eq!(rt; shelf.length(0), 3);
-    assert_eq!(rt; shown(shelf.head(0, 1)), Some((4, 12, 0, 2, 6)));
+    assert_eq!(rt; shelf.head(0, 1), Some(head(4, 12, 0, Verdict::Capped, 6)));
     assert_eq!(rt; shelf.body(0, 1, -7), 12);
-    assert_eq!(rt; shown(tape.head(1, 1)), Some((0, 15, 1, 2, 5)));
+    assert_eq!(rt; tape.head(1, 1), Some(head(0, 15, 1, Verdict::Capped, 5)));
     assert_eq!(rt; tape.body(1, 1, -7), 15);
     assert_eq!(rt; tape.body(1, 3, -7), -7);
     assert_eq!(rt; shelf.body(2, 0, -7), -7);
+    assert_eq!(rt; Verdict::Capped.number(), 2);
 }
 
-// The largest ledgers: 32 units of 64 places each are filled and judged, and only then is there no room.
+// Fills and judges 32 units of 64 places each: only then is there no room.
+fn fill<L: Ledger<i64>>(rt: &impl Abort, ledger: &mut L) {
+    for place in 0..64 {
+        for unit in 0..32 {
+            assert_eq!(rt; answer(ledger, add(unit, place, place)), (0, place));
+        }
+    }
+    for place in 0..64 {
+        for unit in 0..32 {
+            assert_eq!(rt; answer(ledger, mark(unit, place, 1, 1)), (0, place));
+        }
+    }
+    assert_eq!(rt; answer(ledger, add(31, 0, 0)), (16, -1));
+}
+
+// The largest ledgers.
 #[test]
 fn largest(rt: HostRuntime) {
     let mut shelf_slots = [OLD; 2048];
-    let mut tape_slots = [Write {
-        unit: 0,
-        place: 0,
-        filing: OLD,
-    }; 4096];
+    let mut tape_slots = [OLD_WRITE; 4096];
     let mut shelf = Shelf::new(32, 64, &mut shelf_slots);
     let mut tape = Tape::new(32, 64, &mut tape_slots);
-    for place in 0..64 {
-        for unit in 0..32 {
-            assert_eq!(rt; answer(&mut shelf, add(unit, place, place)), (0, place));
-            assert_eq!(rt; answer(&mut tape, add(unit, place, place)), (0, place));
-        }
-    }
-    for place in 0..64 {
-        for unit in 0..32 {
-            assert_eq!(rt; answer(&mut shelf, mark(unit, place, 1, 1)), (0, place));
-            assert_eq!(rt; answer(&mut tape, mark(unit, place, 1, 1)), (0, place));
-        }
-    }
-    assert_eq!(rt; answer(&mut shelf, add(31, 0, 0)), (16, -1));
-    assert_eq!(rt; answer(&mut tape, add(31, 0, 0)), (16, -1));
+    fill(&rt, &mut shelf);
+    fill(&rt, &mut tape);
     alike(&rt, &shelf, &tape);
 }
 
@@ -190,13 +199,22 @@ fn with_steps(upper: i64) -> Result<Thermal, Fail> {
     })
 }
 
+fn all_day<B>(minute: i64, body: B) -> Submission<B> {
+    Submission {
+        minute,
+        first: 1,
+        last: 24,
+        body,
+    }
+}
+
 // Two filings with steps, of which the first is judged: their tops, and that of the body brought where there is none.
 fn tops<L: Ledger<Thermal>>(rt: &impl Abort, ledger: &mut L) -> Result<(i64, i64, i64), Fail> {
     let small = with_steps(250)?;
     let large = with_steps(300)?;
     let other = with_steps(400)?;
-    assert!(rt; ledger.add(1, 1, 1, 24, small).is_ok());
-    assert!(rt; ledger.add(1, 2, 1, 24, large).is_ok());
+    assert!(rt; ledger.add(1, all_day(1, small)).is_ok());
+    assert!(rt; ledger.add(1, all_day(2, large)).is_ok());
     assert!(rt; ledger.mark(1, 0, 2, 1).is_ok());
     Ok((
         ledger.body(1, 0, other).top(),
@@ -207,12 +225,17 @@ fn tops<L: Ledger<Thermal>>(rt: &impl Abort, ledger: &mut L) -> Result<(i64, i64
 
 #[test]
 fn bodies_with_steps(rt: HostRuntime) -> Result<(), Fail> {
-    let blank = Filing::waiting(0, 0, 0, with_steps(150)?);
-    let mut shelf_slots = [blank; 4];
+    let filing = Filing::waiting(Submission {
+        minute: 0,
+        first: 0,
+        last: 0,
+        body: with_steps(150)?,
+    });
+    let mut shelf_slots = [filing; 4];
     let mut tape_slots = [Write {
         unit: 0,
         place: 0,
-        filing: blank,
+        filing,
     }; 8];
     let mut shelf = Shelf::new(2, 2, &mut shelf_slots);
     let mut tape = Tape::new(2, 2, &mut tape_slots);

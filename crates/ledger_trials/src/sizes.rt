@@ -1,4 +1,4 @@
-use ledgers::filing::Filing;
+use ledgers::filing::{Filing, Submission};
 use ledgers::ledger::Ledger;
 use ledgers::write::Write;
 use refusals::ledger::LedgerRefusal;
@@ -45,33 +45,23 @@ fn each_limit(rt: HostRuntime) {
     }
 }
 
+// Every number of it is the same.
+fn submission(number: i64) -> Submission<i64> {
+    Submission {
+        minute: number,
+        first: number,
+        last: number,
+        body: number,
+    }
+}
+
 // Units and places of a new ledger, and the number with which it refuses an add to unit 0.
 fn made<L: Ledger<i64>>(ledger: &mut L) -> (i64, i64, u32) {
-    let refused = match ledger.add(0, 1, 1, 1, 1) {
-        Ok(_) => 0,
-        Err(refusal) => u32::from(refusal),
-    };
-    (ledger.units(), ledger.places(), refused)
+    let told = ledger.add(0, submission(1)).map(|_| ());
+    (ledger.units(), ledger.places(), number(told))
 }
 
-// Of a shelf over six slots, and a tape over twelve.
-fn made_shelf(units: i64, places: i64) -> (i64, i64, u32) {
-    let mut slots = [Filing::waiting(0, 0, 0, 0); 6];
-    let mut shelf = Shelf::new(units, places, &mut slots);
-    made(&mut shelf)
-}
-
-fn made_tape(units: i64, places: i64) -> (i64, i64, u32) {
-    let mut slots = [Write {
-        unit: 0,
-        place: 0,
-        filing: Filing::waiting(0, 0, 0, 0),
-    }; 12];
-    let mut tape = Tape::new(units, places, &mut slots);
-    made(&mut tape)
-}
-
-// A making decides by the figures: where they are refused there are no units and no places.
+// A making over six slots of a shelf or twelve of a tape decides by the figures: where they are refused there are no units and no places.
 #[test]
 fn makings(rt: HostRuntime) {
     let table = [
@@ -83,8 +73,17 @@ fn makings(rt: HostRuntime) {
         (1, 65, (0, 0, 6)),
         (-1, -2, (0, 0, 6)),
     ];
+    let filing = Filing::waiting(submission(0));
+    let mut shelf_slots = [filing; 6];
+    let mut tape_slots = [Write {
+        unit: 0,
+        place: 0,
+        filing,
+    }; 12];
     for (units, places, expected) in table {
-        assert_eq!(rt; made_shelf(units, places), expected);
-        assert_eq!(rt; made_tape(units, places), expected);
+        let mut shelf = Shelf::new(units, places, &mut shelf_slots);
+        assert_eq!(rt; made(&mut shelf), expected);
+        let mut tape = Tape::new(units, places, &mut tape_slots);
+        assert_eq!(rt; made(&mut tape), expected);
     }
 }

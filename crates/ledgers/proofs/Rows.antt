@@ -1,7 +1,8 @@
 -- Rows of equal width in one list, of which each has a first part in use: before and after a write.
-use Rattle.std.proofs.Common.{◌≡◌, ℕ, zero, suc, ◌+◌, ◌-◌, ◌*◌, ◌<◌, ◌≤◌, max, Bool, true, false, cond, eqb, ltb, ◌≢◌, ◌⊎◌, List, [], ◌∷◌, length, get_or, take, drop, set, replicate, Some, sym, refl, ap, ◌∙◌, inl, inr, ⊎_elim, suc-le-suc, zero-le, le_of_suc-le-suc, not-suc-le-zero, mul-le-mul_right, suc-mul, arith, length-drop, length-take, get_or-drop, get_or-set_other, get_or-take, get_or-set_same, drop-set-lt, le-ltb, lt-ltb}
+use Rattle.std.proofs.Common.{◌≡◌, ℕ, zero, suc, ◌+◌, ◌-◌, ◌*◌, ◌<◌, ◌≤◌, max, Bool, true, false, cond, eqb, ltb, ◌≢◌, ◌⊎◌, List, [], ◌∷◌, length, get_or, take, drop, set, replicate, Some, sym, refl, ap, ◌∙◌, ⊎_elim, zero-le, le_of_suc-le-suc, not-suc-le-zero, mul-le-mul_right, suc-mul, arith, length-drop, length-take, get_or-drop, get_or-set_other, get_or-take, get_or-set_same, drop-set-lt, le-ltb, lt-ltb}
 use Rattle.std.proofs.lemmas.List.{take-set-le, drop-set-add}
 use Rattle.std.proofs.lemmas.Option.{slice_get-get_or}
+use Rattle.std.proofs.lemmas.Bool.{cases_order}
 use Rattle.std.proofs.lemmas.Bool.Decides.{eqb_tells, leb_tells}
 use Rattle.std.specs.List.{slice_get}
 use Rattle.ledgers.specs.Puts.{put}
@@ -10,12 +11,6 @@ use Rattle.ledgers.specs.Rows.{row}
 -- row v of k places ends where row w begins, or before
 pub rows_apart : (v w k : ℕ) → v < w → v * k + k ≤ w * k
 rows_apart v w k h = omega (arith, mul-le-mul_right k h, suc-mul v k)
-
-apart : (v u : ℕ) → v ≢ u → (v < u) ⊎ (u < v)
-apart zero zero ne = absurd (ne refl)
-apart zero (suc u) ne = inl (omega arith)
-apart (suc v) zero ne = inr (omega arith)
-apart (suc v) (suc u) ne = ⊎_elim (λ p. inl (suc-le-suc p)) (λ p. inr (suc-le-suc p)) (apart v u (λ e. ne (ap suc e)))
 
 pub filled_more : (lens : List ℕ) (u m k : ℕ) → ((j : ℕ) → get_or lens j 0 ≤ k) → m ≤ k → (j : ℕ) → get_or (set lens u m) j 0 ≤ k
 filled_more [] u m k all le j = zero-le
@@ -29,9 +24,12 @@ zeros zero k = refl
 zeros (suc n) zero = refl
 zeros (suc n) (suc k) = zeros n k
 
-pub no_items : {X : Type 0} (xs : List X) → length xs ≡ 0 → xs ≡ []
-no_items [] e = refl
-no_items (x ∷ xs) e = absurd (let q : ⊥ = omega arith in q)
+-- a place below the length of a list is of a unit that there is
+pub counted_inside : (units n u p : ℕ) → p < cond (ltb u units) n 0 → (u < units) × (p < n)
+counted_inside units n u p lt = ⊎_elim
+    (λ (t : (ltb u units ≡ true) × (u < units)). (t.1, omega (arith, lt, ap (λ b. cond b n 0) t.0)))
+    (λ (t : (ltb u units ≡ false) × (units < suc u)). absurd (let f : ⊥ = omega (arith, lt, ap (λ b. cond b n 0) t.0) in f))
+    (leb_tells (suc u) units)
 
 module _ {X : Type 0} where
   window_before : (a n : ℕ) (xs : List X) (i : ℕ) (x : X) → a + n ≤ i → take n (drop a (set xs i x)) ≡ take n (drop a xs)
@@ -69,13 +67,16 @@ module _ {X : Type 0} where
       ap (λ j. cond (ltb v units) (take j (drop (v * k) (set xs (u * k + p) x))) []) (get_or-set_other lens u v m 0 ne)
       ∙ ap (λ ys. cond (ltb v units) ys [])
       (⊎_elim
+      (λ (same : v ≡ u). absurd (ne same))
+      (λ (o : (v < u) ⊎ (u < v)). ⊎_elim
       (λ (less : v < u).
       let far : v * k + k ≤ u * k = rows_apart v u k less in
       window_before (v * k) (get_or lens v 0) xs (u * k + p) x (omega arith))
       (λ (more : u < v).
       let far : u * k + k ≤ v * k = rows_apart u v k more in
       ap (take (get_or lens v 0)) (drop-set-lt (v * k) xs (u * k + p) x (omega arith)))
-      (apart v u ne))
+      o)
+      (cases_order v u))
 
   -- each row after a write
   pub rows_written : (xs : List X) (lens : List ℕ) (k units u p m : ℕ) (x : X) → u < units → u < length lens → p ≤ get_or lens u 0 → p < k → units * k ≤ length xs → ((j : ℕ) → get_or lens j 0 ≤ k) → m ≡ max (get_or lens u 0) (p + 1) → (v : ℕ) → row (set xs (u * k + p) x) (set lens u m) k units v ≡ cond (eqb v u) (put (row xs lens k units u) p x) (row xs lens k units v)
@@ -101,6 +102,13 @@ module _ {X : Type 0} where
   row_length xs lens k units u lt most fits =
       let far : u * k + k ≤ units * k = rows_apart u units k lt in
       ap length (row_known xs lens k units u lt) ∙ simp (length-take, length-drop) (omega arith)
+
+  -- how long each row is, also one that there is not
+  pub row_count : (xs : List X) (lens : List ℕ) (k units u : ℕ) → get_or lens u 0 ≤ k → units * k ≤ length xs → length (row xs lens k units u) ≡ cond (ltb u units) (get_or lens u 0) 0
+  row_count xs lens k units u most fits = ⊎_elim
+      (λ (t : (ltb u units ≡ true) × (u < units)). row_length xs lens k units u t.1 most fits ∙ sym (ap (λ b. cond b (get_or lens u 0) 0) t.0))
+      (λ (t : (ltb u units ≡ false) × (units < suc u)). ap length (row_unknown xs lens k units u (omega (arith, t.1))) ∙ sym (ap (λ b. cond b (get_or lens u 0) 0) t.0))
+      (leb_tells (suc u) units)
 
   -- what stands at place p of row u
   pub row_at : (xs : List X) (lens : List ℕ) (k units u p : ℕ) (x : X) → u < units → get_or lens u 0 ≤ k → units * k ≤ length xs → p < get_or lens u 0 → x ≡ get_or xs (u * k + p) x → Some x ≡ slice_get (row xs lens k units u) p

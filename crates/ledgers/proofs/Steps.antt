@@ -1,6 +1,7 @@
 -- An add and a mark as writes to a list.
-use Rattle.std.proofs.Common.{◌≡◌, ℕ, zero, suc, ◌+◌, ◌<◌, Bool, true, false, cond, ◌&&◌, eqb, ltb, List, [], ◌∷◌, ◌++◌, length, set, ℤ, pos, negsuc, Some, None, Ok, Err, Option, Result, sym, refl, ap, ◌∙◌, subst, ⊎_elim, suc-le-suc, le_of_suc-le-suc, not-suc-le-zero, arith}
+use Rattle.std.proofs.Common.{◌≡◌, ℕ, zero, suc, ◌+◌, ◌<◌, Bool, true, false, cond, ◌&&◌, eqb, ltb, List, [], ◌∷◌, ◌++◌, length, set, ℤ, pos, negsuc, Some, None, Ok, Err, Option, Result, sym, refl, ap, ◌∙◌, subst, ⊎_elim, le_of_suc-le-suc, not-suc-le-zero, arith}
 use Rattle.std.proofs.lemmas.Bool.Decides.{leb_tells}
+use Rattle.std.proofs.lemmas.Option.{slice_get_within}
 use Rattle.std.specs.List.{slice_get}
 use Rattle.refusals.specs.declared.ledger.LedgerRefusal.{LedgerRefusal}
 use Rattle.refusals.specs.declared.ledger.LedgerRefusal.TheVariants.{UnknownUnit, ListFull, NotMarkable}
@@ -12,13 +13,17 @@ use Rattle.ledgers.specs.Held.{Held, Bounded, number_below, natural_of}
 use Rattle.ledgers.specs.Writes.{given, add_of, mark_of, judged, judged_as, is_round, with_list, after_add, after_mark}
 use Rattle.ledgers.specs.Puts.{put, written, made, Fits}
 
+-- two variants are not one value: the premise is found by `cc`
+pub clash : {C : Type 0} → ◌≡◌ {A = ℕ} 0 1 → C
+clash e = absurd (let f : ⊥ = omega arith in f)
+
 -- a number that is one below an end
 pub below_some : (x : ℤ) (end n : ℕ) → Some n ≡ number_below x end → (x ≡ pos n) × (n < end)
 below_some (pos m) end n e = ⊎_elim
     (λ (t : (ltb m end ≡ true) × (m < end)). let s : Some n ≡ Some m = e ∙ ap (λ b. cond b (Some m) None) t.0 in let q : n ≡ m = cc in (ap pos (sym q), omega arith))
-    (λ (t : (ltb m end ≡ false) × (end < suc m)). let s : Some n ≡ None = e ∙ ap (λ b. cond b (Some m) None) t.0 in let z : ◌≡◌ {A = ℕ} 0 1 = cc in absurd (let f : ⊥ = omega arith in f))
+    (λ (t : (ltb m end ≡ false) × (end < suc m)). let s : Some n ≡ None = e ∙ ap (λ b. cond b (Some m) None) t.0 in clash cc)
     (leb_tells (suc m) end)
-below_some (negsuc m) end n e = let z : ◌≡◌ {A = ℕ} 0 1 = cc in absurd (let f : ⊥ = omega arith in f)
+below_some (negsuc m) end n e = clash cc
 
 pub put_end : {X : Type 0} (xs : List X) (x : X) → put xs (length xs) x ≡ xs ++ x ∷ []
 put_end [] x = refl
@@ -31,17 +36,12 @@ put_set (y ∷ ys) (suc p) x lt = ap (λ l. y ∷ l) (put_set ys p x (le_of_suc-
 
 where_both : {X : Type 0} (a b : Bool) (x : X) (o : Option X) → Some x ≡ cond (a && b) o None → (a ≡ true) × (Some x ≡ o)
 where_both true true x o e = (refl, e)
-where_both true false x o e = let z : ◌≡◌ {A = ℕ} 0 1 = cc in absurd (let q : ⊥ = omega arith in q)
-where_both false b x o e = let z : ◌≡◌ {A = ℕ} 0 1 = cc in absurd (let q : ⊥ = omega arith in q)
+where_both true false x o e = clash cc
+where_both false b x o e = clash cc
 
 given_so : {A C : Type 0} (o : Option A) (e : LedgerRefusal) (next : A → Result C LedgerRefusal) (c : C) → Ok c ≡ given o e next → (a : A) × (o ≡ Some a) × (Ok c ≡ next a)
-given_so None e next c is = let z : ◌≡◌ {A = ℕ} 0 1 = cc in absurd (let q : ⊥ = omega arith in q)
+given_so None e next c is = clash cc
 given_so (Some a) e next c is = (a, refl, is)
-
-nth_inside : {X : Type 0} (xs : List X) (p : ℕ) (x : X) → slice_get xs p ≡ Some x → p < length xs
-nth_inside [] p x e = let z : ◌≡◌ {A = ℕ} 0 1 = cc in absurd (let q : ⊥ = omega arith in q)
-nth_inside (y ∷ ys) zero x e = omega arith
-nth_inside (y ∷ ys) (suc p) x e = suc-le-suc (nth_inside ys p x e)
 
 ok_is : {C : Type 0} (c d : C) → ◌≡◌ {A = Result C LedgerRefusal} (Ok c) (Ok d) → c ≡ d
 ok_is c d e = cc
@@ -52,7 +52,7 @@ module _ {B : Type 0} where
   made_end (g ∷ fs) f w = omega (arith, made_end fs f w)
 
   made_mark : (fs : List (Filing B)) (p : ℕ) (f g : Filing B) → Some f ≡ slice_get fs p → waits f.verdict ≡ true → waits g.verdict ≡ false → made (put fs p g) ≡ made fs + 1
-  made_mark [] p f g at w j = let z : ◌≡◌ {A = ℕ} 0 1 = cc in absurd (let q : ⊥ = omega arith in q)
+  made_mark [] p f g at w j = clash cc
   made_mark (x ∷ fs) zero f g at w j =
       let same : f ≡ x = cc in
       let wx : waits x.verdict ≡ true = ap (λ y. waits y.verdict) (sym same) ∙ w in
@@ -66,15 +66,15 @@ module _ {B : Type 0} where
   by_number f g r true b c e = let v : g.verdict ≡ Consistent = cc in ap waits v
   by_number f g r false true c e = let v : g.verdict ≡ Capped = cc in ap waits v
   by_number f g r false false true e = let v : g.verdict ≡ PassedOver = cc in ap waits v
-  by_number f g r false false false e = let z : ◌≡◌ {A = ℕ} 0 1 = cc in absurd (let q : ⊥ = omega arith in q)
+  by_number f g r false false false e = clash cc
 
   as_judged : (f g : Filing B) (v r : ℤ) → Some g ≡ judged_as f (judgement v) r → waits g.verdict ≡ false
-  as_judged f g (negsuc n) r e = let z : ◌≡◌ {A = ℕ} 0 1 = cc in absurd (let q : ⊥ = omega arith in q)
+  as_judged f g (negsuc n) r e = clash cc
   as_judged f g (pos n) r e = by_number f g r (eqb n 1) (eqb n 2) (eqb n 3) e
 
   -- what is known of a write that an add or a mark makes
   add_so : (h : Held B) (o : Option ℕ) (f : Filing B) (w : Write B) → Ok w ≡ given o UnknownUnit (λ u. cond (ltb (length (h.list u)) h.places) (Ok (record { unit = u; place = length (h.list u); filing = f })) (Err ListFull)) → (Some w.unit ≡ o) × (w.place ≡ length (h.list w.unit)) × (w.place < h.places) × (w.filing ≡ f)
-  add_so h None f w e = let z : ◌≡◌ {A = ℕ} 0 1 = cc in absurd (let q : ⊥ = omega arith in q)
+  add_so h None f w e = clash cc
   add_so h (Some u) f w e =
       let at : Bool → Result (Write B) LedgerRefusal = λ b. cond b (Ok (record { unit = u; place = length (h.list u); filing = f })) (Err ListFull) in
       ⊎_elim
@@ -85,7 +85,7 @@ module _ {B : Type 0} where
       (ap (λ x. Some x.unit) same, place ∙ sym (ap (λ x. length (h.list x.unit)) same), omega (arith, t.1), ap (λ x. x.filing) same))
       (λ (t : (ltb (length (h.list u)) h.places ≡ false) × (h.places < suc (length (h.list u)))).
       let is : Ok w ≡ Err ListFull = e ∙ ap at t.0 in
-      let z : ◌≡◌ {A = ℕ} 0 1 = cc in absurd (let q : ⊥ = omega arith in q))
+      clash cc)
       (leb_tells (suc (length (h.list u))) h.places)
 
   pub add_fits : (h : Held B) (x : ℤ) (f : Filing B) (w : Write B) → Ok w ≡ add_of h x f → waits f.verdict ≡ true → Fits h w
@@ -125,7 +125,7 @@ module _ {B : Type 0} where
         known = ap (λ z. Some z.unit) same ∙ sym a.1;
         old = c.0;
         there = sym c.1 ∙ sym (ap (λ z. slice_get (h.list z.unit) z.place) same);
-        inside = subst (λ z. z.place < length (h.list z.unit)) (sym same) (nth_inside (h.list a.0) b.0 c.0 c.1);
+        inside = subst (λ z. z.place < length (h.list z.unit)) (sym same) (slice_get_within (h.list a.0) b.0 c.0 c.1);
         so = ap (λ z. Some z.filing) same ∙ sym d.1;
       }
 

@@ -2,7 +2,6 @@
 use Rattle.std.specs.Prelude.{◌≡◌, ℕ, ◌≤◌, cond, ◌⊎◌, List, [], length, ℤ, pos, negsuc, Some, None, Option, nat_lt}
 use Rattle.std.specs.List.{slice_get}
 use Rattle.ledgers.specs.declared.filing.Filing.{Filing}
-use Rattle.ledgers.specs.declared.filing.Head.{Head}
 
 -- how many units, how many places for each, and the filings of each unit number in their order
 pub record Held (B : Type 0) : Type 0 where
@@ -40,14 +39,18 @@ module _ {B : Type 0} where
   filing_at fs (negsuc p) = None
 
   -- all of a filing but its body
-  abbrev pub head_of : Filing B → Head
-  head_of f = record { minute = f.minute; first = f.first; last = f.last; verdict = f.verdict; round = f.round }
+  abbrev pub head_of : Filing B → Filing (Unit {0})
+  head_of f = record {
+    submission = record { minute = f.submission.minute; first = f.submission.first; last = f.submission.last; body = tt };
+    verdict = f.verdict;
+    round = f.round;
+  }
 
-  abbrev pub head_in : Option (Filing B) → Option Head
+  abbrev pub head_in : Option (Filing B) → Option (Filing (Unit {0}))
   head_in None = None
   head_in (Some f) = Some (head_of f)
 
   -- the body, or another where there is no filing
   abbrev pub body_in : Option (Filing B) → B → B
   body_in None other = other
-  body_in (Some f) other = f.body
+  body_in (Some f) other = f.submission.body

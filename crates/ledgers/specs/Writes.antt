@@ -4,6 +4,7 @@ use Rattle.std.specs.List.{slice_get}
 use Rattle.refusals.specs.declared.ledger.LedgerRefusal.{LedgerRefusal}
 use Rattle.refusals.specs.declared.ledger.LedgerRefusal.TheVariants.{UnknownUnit, ListFull, NotMarkable}
 use Rattle.ledgers.specs.declared.filing.Filing.{Filing}
+use Rattle.ledgers.specs.declared.filing.Submission.{Submission}
 use Rattle.ledgers.specs.declared.verdict.Verdict.{Verdict}
 use Rattle.ledgers.specs.declared.verdict.Verdict.TheVariants.{Waiting}
 use Rattle.ledgers.specs.declared.write.Write.{Write}
@@ -21,12 +22,12 @@ given {A} {C} (Some a) e next = next a
 
 module _ {B : Type 0} where
   -- a new filing: waiting, of round 0
-  abbrev pub waiting : ℤ → ℤ → ℤ → B → Filing B
-  waiting minute first last body = record { minute = minute; first = first; last = last; body = body; verdict = Waiting; round = pos 0 }
+  abbrev pub waiting : Submission B → Filing B
+  waiting submission = record { submission = submission; verdict = Waiting; round = pos 0 }
 
   abbrev pub judged_as : Filing B → Option Verdict → ℤ → Option (Filing B)
   judged_as f None round = None
-  judged_as f (Some v) round = Some (record { minute = f.minute; first = f.first; last = f.last; body = f.body; verdict = v; round = round })
+  judged_as f (Some v) round = Some (record { submission = f.submission; verdict = v; round = round })
 
   -- the filing with a verdict from 1 to 3 and a round from 0 to 6: none for other numbers, or where it does not wait
   abbrev pub judged : Filing B → ℤ → ℤ → Option (Filing B)

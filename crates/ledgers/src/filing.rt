@@ -1,22 +1,18 @@
 use crate::verdict::Verdict;
 
-// A filing of a unit: when it was received, for which hours, what was offered, and what its round said of it.
-#[derive(Clone, Copy)]
-pub struct Filing<B> {
+// An offer as it came in: when it was received, for which hours, and what was offered.
+#[derive(Clone, Copy, Debug, PartialEq, Eq)]
+pub struct Submission<B> {
     pub minute: i64,
     pub first: i64,
     pub last: i64,
     pub body: B,
-    pub verdict: Verdict,
-    pub round: i64,
 }
 
-// A filing without its body.
-#[derive(Clone, Copy)]
-pub struct Head {
-    pub minute: i64,
-    pub first: i64,
-    pub last: i64,
+// A submission of a unit, and what its round said of it.
+#[derive(Clone, Copy, Debug, PartialEq, Eq)]
+pub struct Filing<B> {
+    pub submission: Submission<B>,
     pub verdict: Verdict,
     pub round: i64,
 }

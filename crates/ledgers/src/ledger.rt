@@ -3,7 +3,7 @@ ghost use Rattle.ledgers.specs.declared.write.Write.{Write};
 ghost use Rattle.ledgers.specs.Held.{Held, Bounded, listed, filing_at, head_in, body_in};
 ghost use Rattle.ledgers.specs.Writes.{waiting, add_of, mark_of, place_in, told_of, after_add, after_mark, Wrote};
 
-use crate::filing::Head;
+use crate::filing::{Filing, Submission};
 use refusals::ledger::LedgerRefusal;
 
 // A list of filings for each unit number. Code above it is proved once, for every ledger, against what it holds and the writes that it makes.
@@ -28,25 +28,18 @@ pub trait Ledger<B> {
         ensures { result ≡ pos (length (listed (held self.now) unit)) };
 
     // All but the body of the filing at a place, if there is one.
-    fn head(&self, unit: i64, place: i64) -> Option<Head>
+    fn head(&self, unit: i64, place: i64) -> Option<Filing<()>>
         ensures { result ≡ head_in (filing_at (listed (held self.now) unit) place) };
 
     // The body of the filing at a place, or the other.
     fn body(&self, unit: i64, place: i64, other: B) -> B
         ensures { result ≡ body_in (filing_at (listed (held self.now) unit) place) other };
 
-    // Adds a waiting filing at the end of the unit's list, and answers its place.
-    fn add(
-        &mut self,
-        unit: i64,
-        minute: i64,
-        first: i64,
-        last: i64,
-        body: B,
-    ) -> Result<i64, LedgerRefusal>
-        ensures answer { result ≡ place_in (add_of (held self.old) unit (waiting minute first last body)) }
-        ensures after { held self.new ≡ after_add (held self.old) (add_of (held self.old) unit (waiting minute first last body)) }
-        ensures wrote { Wrote writes self.old (add_of (held self.old) unit (waiting minute first last body)) self.new };
+    // Adds the submission as a waiting filing at the end of the unit's list, and answers its place.
+    fn add(&mut self, unit: i64, submission: Submission<B>) -> Result<i64, LedgerRefusal>
+        ensures answer { result ≡ place_in (add_of (held self.old) unit (waiting submission)) }
+        ensures after { held self.new ≡ after_add (held self.old) (add_of (held self.old) unit (waiting submission)) }
+        ensures wrote { Wrote writes self.old (add_of (held self.old) unit (waiting submission)) self.new };
 
     // Gives a waiting filing its verdict and round.
     fn mark(&mut self, unit: i64, place: i64, verdict: i64, round: i64) -> Result<(), LedgerRefusal>

@@ -3,8 +3,9 @@
 
 pub mod filing;
 pub mod ledger;
-pub mod lists;
+pub mod lengths;
 pub mod number;
 pub mod size;
+pub mod store;
 pub mod verdict;
 pub mod write;

@@ -5,19 +5,12 @@ ghost use Rattle.ledgers.specs.Held.{number_below, natural_of};
 pub fn below(x: i64, end: usize) -> Option<usize>
     ensures { result ≡ number_below x end }
 {
-    let n = natural(x)?;
-    if n < end {
-        return Some(n);
-    }
-    None
+    natural(x).filter(|&n| n < end)
 }
 
 // The number as a place, where it is not negative.
 pub fn natural(x: i64) -> Option<usize>
     ensures { result ≡ natural_of x }
 {
-    if x < 0 {
-        return None;
-    }
-    Some(x as usize)
+    usize::try_from(x).ok()
 }

@@ -50,5 +50,5 @@ pub fn check_size(units: i64, places: i64, each: u8, slots: usize) -> Result<(),
 fn is_size(units: i64, places: i64) -> bool
     ensures { result ≡ is_size units places }
 {
-    (1 <= units && units <= 32) && (2 <= places && places <= 64)
+    (1..=32).contains(&units) && (2..=64).contains(&places)
 }

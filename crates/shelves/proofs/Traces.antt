@@ -10,9 +10,9 @@ module _ {B : Type 0} where
   trace_name s t [] e = sym (ap (λ x. x.slots.ghost_name) e)
   trace_name s t (w ∷ ws) p = trace_name p.0 t ws p.2 ∙ p.1.0
 
-  pub trace_slots : (s t : Shelf B) (ws : List (Write B)) → Trace shelf_writes s ws t → t.slots.now ≡ slots_after s.size.places s.slots.now ws
+  pub trace_slots : (s t : Shelf B) (ws : List (Write B)) → Trace shelf_writes s ws t → t.slots.now ≡ slots_after s.lengths.size.places s.slots.now ws
   trace_slots s t [] e = sym (ap (λ x. x.slots.now) e)
   trace_slots s t (w ∷ ws) p =
       trace_slots p.0 t ws p.2
       ∙ ap (λ k. slots_after k p.0.slots.now ws) p.1.1
-      ∙ ap (λ xs. slots_after s.size.places xs ws) p.1.2
+      ∙ ap (λ xs. slots_after s.lengths.size.places xs ws) p.1.2

@@ -1,19 +1,14 @@
-ghost use Rattle.std.specs.Prelude.{◌≡◌, ℕ, ◌*◌, ◌≤◌, length, slice_index};
+ghost use Rattle.std.specs.Prelude.{◌≡◌, ◌*◌, ◌≤◌, length};
 
 use ledgers::filing::Filing;
-use ledgers::size::Size;
+use ledgers::lengths::Lengths;
 
-pub mod ledger;
-pub mod lists;
 pub mod methods;
+pub mod store;
 
-// `lens` has the length of each unit's list.
 #[derive(Drop)]
 pub struct Shelf<'a, B> {
     slots: &'a mut [Filing<B>],
-    size: Size,
-    lens: [usize; 32],
-    ghost counted: { length lens ≡ 32 },
-    ghost fits: { size.units * size.places ≤ length slots.now },
-    ghost filled: { ((u : ℕ) → slice_index lens u ≤ size.places) },
+    lengths: Lengths,
+    ghost fits: { lengths.size.units * lengths.size.places ≤ length slots.now },
 }

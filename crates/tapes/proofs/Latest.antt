@@ -1,5 +1,6 @@
 -- The slot that counts for a place is the latest that has it.
 use Rattle.std.proofs.Common.{◌≡◌, ℕ, zero, suc, ◌+◌, ◌<◌, ◌≤◌, Bool, true, false, cond, eqb, List, [], ◌∷◌, ◌++◌, length, get_or, take, Some, None, Option, sym, refl, ap, ◌∙◌, subst, ⊎_elim, le_of_suc-le-suc, not-suc-le-zero, arith, length-take}
+use Rattle.std.proofs.Math.Arith.{lt_of_le-ne}
 use Rattle.std.proofs.lemmas.List.{take_more}
 use Rattle.std.proofs.lemmas.Bool.Decides.{eqb_tells}
 use Rattle.std.specs.List.{slice_get}
@@ -31,14 +32,8 @@ item_at (x ∷ xs) (suc n) lt = item_at xs n (le_of_suc-le-suc lt)
 last_or_before : (j n : ℕ) → j < suc n → (P : ℕ → Type 0) → (j < n → P j) → P n → P j
 last_or_before j n lt P before here = ⊎_elim
     (λ (e : (eqb j n ≡ true) × (j ≡ n)). subst P (sym e.1) here)
-    (λ (e : (eqb j n ≡ false) × (j ≡ n → ⊥)). before (less j n lt e.1))
+    (λ (e : (eqb j n ≡ false) × (j ≡ n → ⊥)). before (lt_of_le-ne (le_of_suc-le-suc lt) e.1))
     (eqb_tells j n)
-  where
-    less : (j n : ℕ) → j < suc n → (j ≡ n → ⊥) → j < n
-    less zero zero lt ne = absurd (ne refl)
-    less zero (suc n) lt ne = omega arith
-    less (suc j) zero lt ne = absurd (not-suc-le-zero (le_of_suc-le-suc lt))
-    less (suc j) (suc n) lt ne = omega (arith, less j n (le_of_suc-le-suc lt) (λ e. ne (ap suc e)))
 
 module _ {B : Type 0} (slots : List (Write B)) where
   -- a slot more, of another unit or place

@@ -1,7 +1,8 @@
 -- The lists that written slots stand for: one slot more, where each filing stands, and how many slots are needed.
-use Rattle.std.proofs.Common.{◌≡◌, ℕ, zero, suc, ◌+◌, ◌*◌, ◌<◌, ◌≤◌, Bool, true, false, cond, eqb, List, [], ◌∷◌, ◌++◌, length, get_or, Some, None, sym, refl, ap, ◌∙◌, ⊎_elim, append_assoc, suc-mul, arith, length-append}
+use Rattle.std.proofs.Common.{◌≡◌, ℕ, zero, suc, ◌+◌, ◌*◌, ◌<◌, ◌≤◌, Bool, true, false, cond, eqb, List, [], ◌∷◌, ◌++◌, length, get_or, Some, None, sym, refl, ap, ◌∙◌, ⊎_elim, le_of_suc-le-suc, append_assoc, suc-mul, arith, length-append}
 use Rattle.std.proofs.lemmas.List.{get_or_at, length_push}
-use Rattle.std.proofs.lemmas.Option.{slice_get_past}
+use Rattle.std.proofs.Math.Arith.{lt_of_le-ne}
+use Rattle.std.proofs.lemmas.Option.{none-some, slice_get_cases, slice_get_past}
 use Rattle.std.proofs.lemmas.Bool.Decides.{eqb_tells}
 use Rattle.std.specs.List.{slice_get}
 use Rattle.ledgers.specs.declared.filing.Filing.{Filing}
@@ -10,6 +11,7 @@ use Rattle.ledgers.specs.Verdicts.{waits}
 use Rattle.ledgers.specs.Puts.{put, made}
 use Rattle.ledgers.specs.Rows.{row}
 use Rattle.ledgers.proofs.Rows.{row_short, row_unknown}
+use Rattle.ledgers.proofs.Steps.{clash}
 use Rattle.tapes.specs.Slots.{total, list_by, filings, counting}
 
 pub total_none : (n : ℕ) → total (λ u. 0) n ≡ 0
@@ -21,12 +23,6 @@ total_below : (f g : ℕ → ℕ) (u n : ℕ) → n ≤ u → ((v : ℕ) → v <
 total_below f g u zero le same = refl
 total_below f g u (suc n) le same = omega (arith, total_below f g u n (omega arith) same, same n le)
 
-pub ne_lt : (n u : ℕ) → u ≤ n → (n ≡ u → ⊥) → u < n
-ne_lt zero zero le ne = absurd (ne refl)
-ne_lt zero (suc u) le ne = absurd (let q : ⊥ = omega arith in q)
-ne_lt (suc n) zero le ne = omega arith
-ne_lt (suc n) (suc u) le ne = omega (arith, ne_lt n u (omega arith) (λ e. ne (ap suc e)))
-
 pub total_more : (f g : ℕ → ℕ) (u n : ℕ) → u < n → g u ≡ f u + 1 → ((v : ℕ) → (v ≡ u → ⊥) → g v ≡ f v) → total g n ≡ total f n + 1
 total_more f g u zero lt one same = absurd (let q : ⊥ = omega arith in q)
 total_more f g u (suc n) lt one same = ⊎_elim
@@ -34,7 +30,7 @@ total_more f g u (suc n) lt one same = ⊎_elim
     let here : g n ≡ f n + 1 = ap g e.1 ∙ one ∙ ap (λ k. f k + 1) (sym e.1) in
     omega (arith, total_below f g u n (omega (arith, e.1)) (λ v h. same v (λ q. omega (arith, q))), here))
     (λ (e : (eqb n u ≡ false) × (n ≡ u → ⊥)).
-    let less : u < n = omega (arith, ne_lt n u (omega arith) e.1) in
+    let less : u < n = lt_of_le-ne (le_of_suc-le-suc lt) (λ q. e.1 (sym q)) in
     omega (arith, total_more f g u n less one same, same n e.1))
     (eqb_tells n u)
 
@@ -53,9 +49,7 @@ put_short (y ∷ ys) (suc p) zero x le lt = absurd (let q : ⊥ = omega arith in
 put_short (y ∷ ys) (suc p) (suc k) x le lt = omega (arith, put_short ys p k x (omega arith) (omega arith))
 
 none_past : {X : Type 0} (xs : List X) (p : ℕ) → None ≡ slice_get xs p → length xs ≤ p
-none_past [] p e = omega arith
-none_past (x ∷ xs) zero e = let z : ◌≡◌ {A = ℕ} 0 1 = cc in absurd (let q : ⊥ = omega arith in q)
-none_past (x ∷ xs) (suc p) e = omega (arith, none_past xs p e)
+none_past xs p e = ⊎_elim (λ t. absurd (none-some t.0 (e ∙ t.2))) (λ t. t.0) (slice_get_cases xs p).1
 
 module _ {B : Type 0} where
   pub made_most : (fs : List (Filing B)) → made fs ≤ 2 * length fs
@@ -105,7 +99,7 @@ module _ {B : Type 0} where
   points_length all (n ∷ ns) (f ∷ fs) so = ap suc (points_length all ns fs so.1)
 
   points_at : (all : List (Write B)) (ns : List ℕ) (fs : List (Filing B)) (p i : ℕ) (w : Write B) → Points all ns fs → Some i ≡ slice_get ns p → w ≡ get_or all i w → (i < length all) × (Some w.filing ≡ slice_get fs p)
-  points_at all [] fs p i w so at is = let z : ◌≡◌ {A = ℕ} 0 1 = cc in absurd (let q : ⊥ = omega arith in q)
+  points_at all [] fs p i w so at is = clash cc
   points_at all (n ∷ ns) [] p i w so at is = absurd so
   points_at all (n ∷ ns) (f ∷ fs) zero i w so at is =
       let same : i ≡ n = cc in

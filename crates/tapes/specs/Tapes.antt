@@ -3,14 +3,14 @@ use Rattle.std.specs.Prelude.{◌≡◌, ℕ, ◌+◌, List, ◌++◌, length, t
 use Rattle.ledgers.specs.declared.write.Write.{Write}
 use Rattle.ledgers.specs.Held.{Held, Bounded}
 use Rattle.ledgers.specs.Sizes.{both_of}
-use Rattle.ledgers.proofs.Rows.{no_items}
+use Rattle.std.proofs.lemmas.List.{nil_from_length}
 use Rattle.tapes.specs.declared.tape.Tape.{Tape}
 use Rattle.tapes.specs.Slots.{filings}
 
 module _ {B : Type 0} where
   -- the lists that the slots written so far stand for
   abbrev pub taped : Tape B → Held B
-  taped s = record { units = s.size.units; places = s.size.places; list = filings (take s.used s.slots.now) }
+  taped s = record { units = s.lengths.size.units; places = s.lengths.size.places; list = filings (take s.used s.slots.now) }
 
   -- the same slots with the write in the next one
   abbrev pub tape_writes : Tape B → Write B → Tape B → Type 0
@@ -24,9 +24,9 @@ module _ {B : Type 0} where
 
   pub tape_bounded : (s : Tape B) → Bounded (taped s)
   tape_bounded s = record {
-    few = s.size.few;
-    narrow = s.size.narrow;
-    both = both_of s.size.units s.size.places s.size.wide s.size.some;
+    few = s.lengths.size.few;
+    narrow = s.lengths.size.narrow;
+    both = both_of s.lengths.size.units s.lengths.size.places s.lengths.size.wide s.lengths.size.some;
     short = s.short;
-    none = λ u h. no_items ((taped s).list u) (s.none u h);
+    none = λ u h. nil_from_length ((taped s).list u) (s.none u h);
   }

@@ -2,32 +2,38 @@ ghost use Rattle.std.specs.Prelude.{◌≡◌};
 ghost use Rattle.ledgers.specs.Held.{head_of};
 ghost use Rattle.ledgers.specs.Writes.{waiting, judged, is_round};
 
-use crate::filing::{Filing, Head};
+use crate::filing::{Filing, Submission};
 use crate::verdict::Verdict;
 
 impl<B: Copy> Filing<B> {
     // A new filing: waiting, of round 0.
-    pub fn waiting(minute: i64, first: i64, last: i64, body: B) -> Filing<B>
-        ensures { result ≡ waiting minute first last body }
+    pub fn waiting(submission: Submission<B>) -> Filing<B>
+        ensures { result ≡ waiting submission }
     {
         Filing {
-            minute,
-            first,
-            last,
-            body,
+            submission,
             verdict: Verdict::Waiting,
             round: 0,
         }
     }
 
     // All of it but its body.
-    pub fn head(self) -> Head
+    pub fn head(self) -> Filing<()>
         ensures { result ≡ head_of self }
     {
-        Head {
-            minute: self.minute,
-            first: self.first,
-            last: self.last,
+        let Submission {
+            minute,
+            first,
+            last,
+            ..
+        } = self.submission;
+        Filing {
+            submission: Submission {
+                minute,
+                first,
+                last,
+                body: (),
+            },
             verdict: self.verdict,
             round: self.round,
         }
@@ -40,23 +46,12 @@ impl<B: Copy> Filing<B> {
         if !self.verdict.is_waiting() || !is_round(round) {
             return None;
         }
-        match Verdict::of_round(verdict) {
-            Some(v) => Some(self.with(v, round)),
-            None => None,
-        }
-    }
-
-    fn with(self, verdict: Verdict, round: i64) -> Filing<B>
-        ensures { result ≡ record { minute = self.minute; first = self.first; last = self.last; body = self.body; verdict = verdict; round = round } }
-    {
-        Filing {
-            minute: self.minute,
-            first: self.first,
-            last: self.last,
-            body: self.body,
+        let verdict = Verdict::of_round(verdict)?;
+        Some(Filing {
             verdict,
             round,
-        }
+            ..self
+        })
     }
 }
 
@@ -64,5 +59,5 @@ impl<B: Copy> Filing<B> {
 fn is_round(round: i64) -> bool
     ensures { result ≡ is_round round }
 {
-    0 <= round && round <= 6
+    (0..=6).contains(&round)
 }

@@ -1,14 +1,14 @@
-ghost use Rattle.std.specs.Prelude.{◌≡◌, ◌+◌, ◌*◌, ◌<◌, length};
-ghost use Rattle.ledgers.specs.Puts.{Fits, written};
+ghost use Rattle.std.specs.Prelude.{◌≡◌, length};
 ghost use Rattle.ledgers.specs.Sizes.{size_answer, new_of};
-ghost use Rattle.shelves.specs.Shelves.{shelved, shelf_writes};
+ghost use Rattle.shelves.specs.Shelves.{shelved};
 
 use crate::shelf::Shelf;
 use ledgers::filing::Filing;
+use ledgers::lengths::Lengths;
 use ledgers::size::{Size, check_size};
 use refusals::ledger::LedgerRefusal;
 
-// Whether a shelf can have this size over this many slots: 1 where no ledger has the size, 2 where there are fewer slots than units times places.
+// Whether a shelf can have this size over this many slots: 1 where no ledger has the size, 2 where there are fewer slots than units times places. Each ledger has its own: a type with a lifetime gets no proof of a trait's constant.
 pub fn check(units: i64, places: i64, slots: usize) -> Result<(), LedgerRefusal>
     ensures { result ≡ size_answer units places 1 slots }
 {
@@ -25,28 +25,7 @@ impl<'a, B: Copy> Shelf<'a, B> {
         let size = Size::of_new(units, places, 1, slots.len());
         Shelf {
             slots,
-            size,
-            lens: [0; 32],
+            lengths: Lengths::new(size),
         }
-    }
-
-    // Where a place of a unit stands.
-    pub(crate) fn slot(&self, u: usize, p: usize) -> usize
-        requires { (u < self.now.size.units) × (p < self.now.size.places) }
-        ensures value { result ≡ u * self.now.size.places + p }
-        ensures inside { result < length self.now.slots.now }
-    {
-        u * self.size.places + p
-    }
-
-    // Writes a filing in place of the one there, or behind the last.
-    pub(crate) fn write(&mut self, u: usize, p: usize, f: Filing<B>)
-        requires { Fits (shelved self.old) (record { unit = u; place = p; filing = f }) }
-        ensures after { shelved self.new ≡ written (shelved self.old) (record { unit = u; place = p; filing = f }) }
-        ensures wrote { shelf_writes self.old (record { unit = u; place = p; filing = f }) self.new }
-    {
-        let i = self.slot(u, p);
-        self.lens[u] = self.lens[u].max(p + 1);
-        self.slots[i] = f;
     }
 }

@@ -1,17 +1,16 @@
-ghost use Rattle.std.specs.Prelude.{◌≡◌, ◌+◌, ◌*◌, ◌<◌, length, take};
-ghost use Rattle.ledgers.specs.Puts.{Fits, written};
-ghost use Rattle.ledgers.specs.Sizes.{size_answer, new_of};
+ghost use Rattle.std.specs.Prelude.{◌≡◌, length, take};
 ghost use Rattle.std.specs.List.{slice_get};
+ghost use Rattle.ledgers.specs.Sizes.{size_answer, new_of};
 ghost use Rattle.tapes.specs.Slots.{counting, Latest};
-ghost use Rattle.tapes.specs.Tapes.{taped, tape_writes};
+ghost use Rattle.tapes.specs.Tapes.{taped};
 
 use crate::tape::Tape;
-use ledgers::filing::Filing;
+use ledgers::lengths::Lengths;
 use ledgers::size::{Size, check_size};
 use ledgers::write::Write;
 use refusals::ledger::LedgerRefusal;
 
-// Whether a tape can have this size over this many slots: 1 where no ledger has the size, 2 where there are fewer slots than twice units times places.
+// Whether a tape can have this size over this many slots: 1 where no ledger has the size, 2 where there are fewer slots than twice units times places. Each ledger has its own: a type with a lifetime gets no proof of a trait's constant.
 pub fn check(units: i64, places: i64, slots: usize) -> Result<(), LedgerRefusal>
     ensures { result ≡ size_answer units places 2 slots }
 {
@@ -30,8 +29,7 @@ impl<'a, B: Copy> Tape<'a, B> {
         Tape {
             slots,
             used: 0,
-            size,
-            lens: [0; 32],
+            lengths: Lengths::new(size),
             latest: [0; 2048],
         }
     }
@@ -41,46 +39,10 @@ impl<'a, B: Copy> Tape<'a, B> {
         ensures counts { result ≡ slice_get (counting (take self.now.used self.now.slots.now) u) p }
         ensures latest { Latest self.now.slots.now self.now.used u p result }
     {
-        if u < self.size.units && p < self.lens[u] {
-            let k = self.spot(u, p);
+        if p < self.lengths.of(u) {
+            let k = self.lengths.index(u, p);
             return Some(self.latest[k]);
         }
         None
-    }
-
-    // Where a place of a unit stands in `latest`.
-    fn spot(&self, u: usize, p: usize) -> usize
-        requires { (u < self.now.size.units) × (p < self.now.size.places) }
-        ensures value { result ≡ u * self.now.size.places + p }
-        ensures inside { result < 2048 }
-    {
-        u * self.size.places + p
-    }
-
-    // The next slot. There is one for every write that can come.
-    fn next(&self, u: usize, p: usize, f: Filing<B>) -> usize
-        requires { Fits (taped self.now) (record { unit = u; place = p; filing = f }) }
-        ensures value { result ≡ self.now.used }
-        ensures inside { result < length self.now.slots.now }
-    {
-        self.used
-    }
-
-    // Writes a filing with its unit and place into the next slot.
-    pub(crate) fn write(&mut self, u: usize, p: usize, f: Filing<B>)
-        requires { Fits (taped self.old) (record { unit = u; place = p; filing = f }) }
-        ensures after { taped self.new ≡ written (taped self.old) (record { unit = u; place = p; filing = f }) }
-        ensures wrote { tape_writes self.old (record { unit = u; place = p; filing = f }) self.new }
-    {
-        let k = self.spot(u, p);
-        let i = self.next(u, p, f);
-        self.slots[i] = Write {
-            unit: u,
-            place: p,
-            filing: f,
-        };
-        self.latest[k] = i;
-        self.lens[u] = self.lens[u].max(p + 1);
-        self.used = i + 1;
     }
 }

@@ -19,5 +19,5 @@ returns g c =
     let back : _ ≡ c.enter_all.new.ledger.slots.now = search rules in
     record {
       answer = c.enter_all.ensures.answer ∙ ap (λ h. length (writes_of h es)) made;
-      slots = back ∙ wrote ∙ ap (λ xs. slots_after s.size.places xs (writes_of (shelved s) es)) c.new-shelf.ensures.same ∙ ap (λ h. slots_after h.places slots (writes_of h es)) made;
+      slots = back ∙ wrote ∙ ap (λ xs. slots_after s.lengths.size.places xs (writes_of (shelved s) es)) c.new-shelf.ensures.same ∙ ap (λ h. slots_after h.places slots (writes_of h es)) made;
     }
