@@ -16,14 +16,14 @@ pub record Admissible (b : Intermittent) (t : Terms) : Type 0 where
   pub price_high : b.price ≤ℤ t.cap
 
 -- the tests of these
-abbrev pub good_forecast : Intermittent → ℤ → Bool
-good_forecast b max = int_le (pos 0) b.forecast && int_le b.forecast max
+abbrev pub good_forecast : Intermittent → Terms → Bool
+good_forecast b t = int_le (pos 0) b.forecast && int_le b.forecast t.maximum
 
-abbrev pub good_price : Intermittent → ℤ → ℤ → Bool
-good_price b floor cap = int_le floor b.price && int_le b.price cap
+abbrev pub good_price : Intermittent → Terms → Bool
+good_price b t = int_le t.floor b.price && int_le b.price t.cap
 
 abbrev pub admits : Intermittent → Terms → Bool
-admits b t = good_forecast b t.maximum && good_price b t.floor t.cap
+admits b t = good_forecast b t && good_price b t
 
 abbrev pub steps_of : Intermittent → List Step
 steps_of b = record { upper = b.forecast; price = b.price } ∷ []

@@ -13,23 +13,23 @@ use offers::terms::Terms;
 const START_PRICE: i64 = 0;
 
 // The offer of an intermittent unit: a forecast in kW, and one price in centavos per MWh.
-#[derive(Clone, Copy)]
+#[derive(Clone, Copy, Debug, PartialEq, Eq)]
 pub struct Intermittent {
     pub forecast: i64,
     pub price: i64,
 }
 
 impl Intermittent {
-    fn has_forecast(&self, maximum: i64) -> bool
-        ensures { result ≡ good_forecast self.now maximum }
+    fn has_forecast(&self, terms: Terms) -> bool
+        ensures { result ≡ good_forecast self.now terms }
     {
-        (0..=maximum).contains(&self.forecast)
+        (0..=terms.maximum).contains(&self.forecast)
     }
 
-    fn has_price(&self, floor: i64, cap: i64) -> bool
-        ensures { result ≡ good_price self.now floor cap }
+    fn has_price(&self, terms: Terms) -> bool
+        ensures { result ≡ good_price self.now terms }
     {
-        (floor..=cap).contains(&self.price)
+        (terms.floor..=terms.cap).contains(&self.price)
     }
 }
 
@@ -39,7 +39,7 @@ impl Body for Intermittent {
     ghost Keeps = { Admissible };
 
     fn fits(&self, terms: Terms) -> bool {
-        self.has_forecast(terms.maximum) && self.has_price(terms.floor, terms.cap)
+        self.has_forecast(terms) && self.has_price(terms)
     }
 
     fn limit(&self) -> i64 {

@@ -7,7 +7,7 @@ use crate::ceilings::Ceilings;
 use crate::kind::Kind;
 use crate::terms::Terms;
 
-// A body that counts only where some book admits it. Its figures are what it says by itself; what it means as a kind of offer is made of them.
+// A body that counts only where some book admits it. Its figures are what it says by itself; as a kind of offer it means the same, and is idle where no book admits it.
 pub trait Body: Copy {
     ghost figures: { Meaning Self };
 
