@@ -5,12 +5,13 @@ use Rattle.std.specs.Int.Signed.{≤ℤ_refl}
 use Rattle.offers.specs.declared.ceilings.Ceilings.{Ceilings}
 use Rattle.offers.specs.declared.terms.Terms.{Terms}
 use Rattle.offers.specs.Bodies.{Rules, Capping}
-use Rattle.offers.specs.Laws.{Allowed, Filed}
+use Rattle.offers.specs.BodyLaws.{lawful as body_lawful}
+use Rattle.offers.specs.Laws.{Allowed, Filed, Lawful}
 use Rattle.offers.specs.Widest.{widest_terms}
 use Rattle.std.specs.Int.{int_min}
 use Rattle.std.proofs.lemmas.Int.{ints, clamps}
 use Rattle.intermittent.specs.declared.Intermittent.{Intermittent}
-use Rattle.intermittent.specs.Intermittents.{Admissible, admits, lowered, steps_of, written}
+use Rattle.intermittent.specs.Intermittents.{Admissible, admits, lowered, steps_of, meaning, written}
 use Rattle.curves.proofs.Curves.{no_dearer}
 use Rattle.offers.proofs.WidestAllowed.{widest_allowed}
 
@@ -43,3 +44,7 @@ capping = record {
   no_dearer = λ b t c h q low high. no_dearer q (pos 0) c.energy (steps_of b) (((decided b t).0 h.admitted).forecast_low, tt);
   start_no_dearer = λ b t c h. ≤ℤ_refl (pos 0);
 }
+
+-- so their meaning shows the laws of every kind
+pub lawful : Lawful meaning
+lawful = body_lawful written Admissible rules capping

@@ -5,7 +5,8 @@ use Rattle.std.specs.Int.Signed.{≤ℤ_refl}
 use Rattle.offers.specs.declared.ceilings.Ceilings.{Ceilings}
 use Rattle.offers.specs.declared.terms.Terms.{Terms}
 use Rattle.offers.specs.Bodies.{Rules, Capping}
-use Rattle.offers.specs.Laws.{Allowed, Filed}
+use Rattle.offers.specs.BodyLaws.{lawful as body_lawful}
+use Rattle.offers.specs.Laws.{Allowed, Filed, Lawful}
 use Rattle.offers.specs.Widest.{widest_terms}
 use Rattle.std.specs.Int.{int_min}
 use Rattle.std.proofs.lemmas.Int.{ints, clamps}
@@ -14,7 +15,7 @@ use Rattle.std.proofs.lemmas.Bool.Decides.{Decides-int_eq, Decides-not, not_from
 use Rattle.curves.specs.declared.steps.Step.{Step}
 use Rattle.thermal.specs.declared.Thermal.{Thermal}
 use Rattle.curves.specs.Curve.{upper_at, steps_in, lowered, above, climbs, rises, last_upper}
-use Rattle.thermal.specs.Thermals.{Status, Economic, Emergency, Start, Admissible, good_status, good_economic, good_emergency_min, good_emergency_max, good_start, good_steps, admits, capped_body, written}
+use Rattle.thermal.specs.Thermals.{Status, Economic, Emergency, Start, Admissible, good_status, good_economic, good_emergency_min, good_emergency_max, good_start, good_steps, admits, capped_body, meaning, written}
 use Rattle.curves.proofs.Curves.{no_dearer, above_capped, above_lower, above_wider, lesser_own, rises_grows, rises_capped, last_capped, climbs_capped, climbs_wider, steps_lowered, lowered_own}
 use Rattle.curves.proofs.Decisions.{int_lt_not}
 use Rattle.curves.proofs.Places.{rising_decided, climbing_decided, above_decided, last_at}
@@ -171,3 +172,7 @@ capping = record {
   no_dearer = λ b t c h q low high. less b t c h q;
   start_no_dearer = λ b t c h. omega (arith, ints, clamps);
 }
+
+-- so their meaning shows the laws of every kind
+pub lawful : Lawful meaning
+lawful = body_lawful written Admissible rules capping
