@@ -2,6 +2,8 @@
 #![tactic(auto)]
 
 #[cfg(test)]
+mod asked;
+#[cfg(test)]
 mod intermittent_bodies;
 #[cfg(test)]
 mod minutes;

@@ -5,26 +5,40 @@ use gates::real_time::RealTime;
 
 #[test]
 fn hours(rt: HostRuntime) {
-    assert!(rt; !is_hour(0));
-    assert!(rt; is_hour(1));
-    assert!(rt; is_hour(24));
-    assert!(rt; !is_hour(25));
-    assert!(rt; !is_hour(i64::MIN));
-    assert!(rt; !is_hour(i64::MAX));
+    let table = [
+        (0, false),
+        (1, true),
+        (24, true),
+        (25, false),
+        (i64::MIN, false),
+        (i64::MAX, false),
+    ];
+    for (hour, expected) in table {
+        assert_eq!(rt; is_hour(hour), expected, "hour {hour}");
+    }
 }
 
 #[test]
 fn real_time(rt: HostRuntime) {
-    assert!(rt; RealTime.admits(719, 12));
-    assert!(rt; !RealTime.admits(720, 12));
-    assert!(rt; RealTime.admits(-10_081, 1));
-    assert!(rt; RealTime.admits(59, 1));
-    assert!(rt; !RealTime.admits(60, 1));
-    assert!(rt; RealTime.admits(1_439, 24));
-    assert!(rt; !RealTime.admits(1_440, 24));
-    assert!(rt; !RealTime.admits(i64::MAX, 24));
-    assert!(rt; RealTime.admits(i64::MAX, i64::MAX));
-    assert!(rt; !RealTime.admits(i64::MIN, i64::MIN));
+    let table = [
+        (719, 12, true),
+        (720, 12, false),
+        (-10_081, 1, true),
+        (59, 1, true),
+        (60, 1, false),
+        (1_439, 24, true),
+        (1_440, 24, false),
+        (i64::MAX, 24, false),
+        (i64::MAX, i64::MAX, true),
+        (i64::MIN, i64::MIN, false),
+    ];
+    for (minute, hour, expected) in table {
+        assert_eq!(rt;
+            RealTime.admits(minute, hour),
+            expected,
+            "minute {minute}, hour {hour}"
+        );
+    }
 }
 
 // What a cut gate at a minute, if there is one, says of another.
@@ -43,28 +57,47 @@ fn refused(at: i64) -> Option<u32> {
 
 #[test]
 fn refused_cuts(rt: HostRuntime) {
-    assert_eq!(rt; refused(-10_081), Some(12));
-    assert_eq!(rt; refused(-10_080), None);
-    assert_eq!(rt; refused(1_440), None);
-    assert_eq!(rt; refused(1_441), Some(12));
+    let table = [
+        (-10_081, Some(12)),
+        (-10_080, None),
+        (1_440, None),
+        (1_441, Some(12)),
+    ];
+    for (at, expected) in table {
+        assert_eq!(rt; refused(at), expected, "at {at}");
+    }
 }
 
 #[test]
 fn hours_of_a_cut(rt: HostRuntime) {
-    assert_eq!(rt; cut_for(-840, -841, 24), Some(true));
-    assert_eq!(rt; cut_for(-840, -840, 24), Some(false));
-    assert_eq!(rt; cut_for(-840, -841, i64::MIN), Some(true));
-    assert_eq!(rt; cut_for(-840, -840, i64::MAX), Some(false));
+    let table = [
+        (-841, 24, true),
+        (-840, 24, false),
+        (-841, i64::MIN, true),
+        (-840, i64::MAX, false),
+    ];
+    for (minute, hour, expected) in table {
+        assert_eq!(rt;
+            cut_for(-840, minute, hour),
+            Some(expected),
+            "minute {minute}, hour {hour}"
+        );
+    }
 }
 
 #[test]
 fn cuts(rt: HostRuntime) {
-    assert_eq!(rt; cut(-10_081, 0), None);
-    assert_eq!(rt; cut(-10_080, -10_081), Some(true));
-    assert_eq!(rt; cut(-10_080, -10_080), Some(false));
-    assert_eq!(rt; cut(1_440, 1_439), Some(true));
-    assert_eq!(rt; cut(1_440, 1_440), Some(false));
-    assert_eq!(rt; cut(1_441, 0), None);
-    assert_eq!(rt; cut(i64::MIN, 0), None);
-    assert_eq!(rt; cut(i64::MAX, 0), None);
+    let table = [
+        (-10_081, 0, None),
+        (-10_080, -10_081, Some(true)),
+        (-10_080, -10_080, Some(false)),
+        (1_440, 1_439, Some(true)),
+        (1_440, 1_440, Some(false)),
+        (1_441, 0, None),
+        (i64::MIN, 0, None),
+        (i64::MAX, 0, None),
+    ];
+    for (at, minute, expected) in table {
+        assert_eq!(rt; cut(at, minute), expected, "at {at}, minute {minute}");
+    }
 }

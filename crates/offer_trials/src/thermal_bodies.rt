@@ -1,5 +1,6 @@
+use crate::asked::{admitted, held_to};
 use curves::steps::{Step, Steps};
-use offers::ceilings::Ceilings;
+use offers::body::Body;
 use offers::kind::Kind;
 use offers::terms::Terms;
 use std::test::Fail;
@@ -27,82 +28,86 @@ fn usual() -> Result<Thermal, Fail> {
     with_steps(&[step(100, 50), step(250, 70)])
 }
 
-// Whether a body is admitted to 1,000 kW and prices from -100 to 100.
-fn admitted(body: Thermal) -> bool {
-    body.admissible(Terms {
-        maximum: 1_000,
-        floor: -100,
-        cap: 100,
-    })
-}
-
 #[test]
 fn status(rt: HostRuntime) -> Result<(), Fail> {
-    let mut body = usual()?;
-    body.status = -1;
-    assert!(rt; !admitted(body));
-    body.status = 0;
-    assert!(rt; admitted(body));
-    body.status = 2;
-    assert!(rt; admitted(body));
-    body.status = 3;
-    assert!(rt; !admitted(body));
+    let usual = usual()?;
+    for (status, expected) in [(-1, false), (0, true), (2, true), (3, false)] {
+        let body = Thermal { status, ..usual };
+        assert_eq!(rt; admitted(body), expected, "status {status}");
+    }
     Ok(())
 }
 
 #[test]
 fn lower_limits(rt: HostRuntime) -> Result<(), Fail> {
-    let mut body = usual()?;
-    body.emergency_min = -1;
-    assert!(rt; !admitted(body));
-    body.emergency_min = 0;
-    assert!(rt; admitted(body));
-    body.emergency_min = 20;
-    assert!(rt; admitted(body));
-    body.emergency_min = 21;
-    assert!(rt; !admitted(body));
-    body.emergency_min = 0;
-    body.economic_min = -1;
-    assert!(rt; !admitted(body));
-    body.economic_min = 0;
-    assert!(rt; admitted(body));
-    body.economic_min = 250;
-    assert!(rt; admitted(body));
-    body.economic_min = 251;
-    assert!(rt; !admitted(body));
+    let usual = usual()?;
+    let table = [
+        (-1, 20, false),
+        (0, 20, true),
+        (20, 20, true),
+        (21, 20, false),
+        (0, -1, false),
+        (0, 0, true),
+        (0, 250, true),
+        (0, 251, false),
+    ];
+    for (emergency_min, economic_min, expected) in table {
+        let body = Thermal {
+            emergency_min,
+            economic_min,
+            ..usual
+        };
+        assert_eq!(rt;
+            admitted(body),
+            expected,
+            "from {emergency_min} and {economic_min} kW"
+        );
+    }
     Ok(())
 }
 
 #[test]
 fn upper_limits(rt: HostRuntime) -> Result<(), Fail> {
-    let mut body = usual()?;
-    body.emergency_max = 249;
-    assert!(rt; !admitted(body));
-    body.emergency_max = 250;
-    assert!(rt; admitted(body));
-    body.emergency_max = 1_000;
-    assert!(rt; admitted(body));
-    body.emergency_max = 1_001;
-    assert!(rt; !admitted(body));
-    body.emergency_max = 300;
-    body.economic_max = 249;
-    assert!(rt; !admitted(body));
-    body.economic_max = 251;
-    assert!(rt; !admitted(body));
+    let usual = usual()?;
+    let table = [
+        (250, 249, false),
+        (250, 250, true),
+        (250, 1_000, true),
+        (250, 1_001, false),
+        (249, 300, false),
+        (251, 300, false),
+    ];
+    for (economic_max, emergency_max, expected) in table {
+        let body = Thermal {
+            economic_max,
+            emergency_max,
+            ..usual
+        };
+        assert_eq!(rt;
+            admitted(body),
+            expected,
+            "up to {economic_max} and {emergency_max} kW"
+        );
+    }
     Ok(())
 }
 
 #[test]
 fn start_prices(rt: HostRuntime) -> Result<(), Fail> {
-    let mut body = usual()?;
-    body.start_price = -1;
-    assert!(rt; !admitted(body));
-    body.start_price = 0;
-    assert!(rt; admitted(body));
-    body.start_price = 1_000_000_000;
-    assert!(rt; admitted(body));
-    body.start_price = 1_000_000_001;
-    assert!(rt; !admitted(body));
+    let usual = usual()?;
+    let table = [
+        (-1, false),
+        (0, true),
+        (1_000_000_000, true),
+        (1_000_000_001, false),
+    ];
+    for (start_price, expected) in table {
+        let body = Thermal {
+            start_price,
+            ..usual
+        };
+        assert_eq!(rt; admitted(body), expected, "{start_price} a start");
+    }
     Ok(())
 }
 
@@ -128,17 +133,22 @@ fn step_counts(rt: HostRuntime) -> Result<(), Fail> {
 
 #[test]
 fn step_rules(rt: HostRuntime) -> Result<(), Fail> {
-    assert!(rt; admitted(with_steps(&[step(1, 0), step(250, 0)])?));
-    assert!(rt; !admitted(with_steps(&[step(0, 0), step(250, 0)])?));
-    assert!(rt; !admitted(with_steps(&[step(250, 0), step(250, 0)])?));
-    assert!(rt; !admitted(with_steps(&[step(250, 0), step(249, 0)])?));
-    assert!(rt; !admitted(with_steps(&[step(100, 0), step(249, 0)])?));
-    assert!(rt; !admitted(with_steps(&[step(100, 0), step(251, 0)])?));
-    assert!(rt; admitted(with_steps(&[step(100, 7), step(250, 7)])?));
-    assert!(rt; !admitted(with_steps(&[step(100, 7), step(250, 6)])?));
-    assert!(rt; admitted(with_steps(&[step(100, -100), step(250, 100)])?));
-    assert!(rt; !admitted(with_steps(&[step(100, -101), step(250, 100)])?));
-    assert!(rt; !admitted(with_steps(&[step(100, -100), step(250, 101)])?));
+    let table = [
+        (step(1, 0), step(250, 0), true),
+        (step(0, 0), step(250, 0), false),
+        (step(250, 0), step(250, 0), false),
+        (step(250, 0), step(249, 0), false),
+        (step(100, 0), step(249, 0), false),
+        (step(100, 0), step(251, 0), false),
+        (step(100, 7), step(250, 7), true),
+        (step(100, 7), step(250, 6), false),
+        (step(100, -100), step(250, 100), true),
+        (step(100, -101), step(250, 100), false),
+        (step(100, -100), step(250, 101), false),
+    ];
+    for (first, last, expected) in table {
+        assert_eq!(rt; admitted(with_steps(&[first, last])?), expected);
+    }
     Ok(())
 }
 
@@ -146,47 +156,52 @@ fn step_rules(rt: HostRuntime) -> Result<(), Fail> {
 fn costs(rt: HostRuntime) -> Result<(), Fail> {
     let body = with_steps(&[step(100, 50_000), step(250, 70_000)])?;
     assert_eq!(rt; body.top(), 250);
-    assert_eq!(rt; body.cost(-1), 0);
-    assert_eq!(rt; body.cost(0), 0);
-    assert_eq!(rt; body.cost(100), 5_000_000);
-    assert_eq!(rt; body.cost(180), 10_600_000);
-    assert_eq!(rt; body.cost(250), 15_500_000);
-    assert_eq!(rt; body.cost(251), 0);
+    let table = [
+        (-1, 0),
+        (0, 0),
+        (100, 5_000_000),
+        (180, 10_600_000),
+        (250, 15_500_000),
+        (251, 0),
+    ];
+    for (output, expected) in table {
+        assert_eq!(rt; body.cost(output), expected, "at {output} kW");
+    }
     assert_eq!(rt; body.start_price(), 5);
-    let capped = body.capped(Ceilings {
-        energy: 60_000,
-        start: 4,
-    });
+    let capped = body.capped(held_to(60_000, 4));
     assert_eq!(rt; capped.cost(180), 9_800_000);
     assert_eq!(rt; capped.start_price(), 4);
     assert_eq!(rt; capped.top(), 250);
     Ok(())
 }
 
-fn held_to(energy: i64, start: i64) -> Ceilings {
-    Ceilings { energy, start }
-}
-
 #[test]
 fn ceilings(rt: HostRuntime) -> Result<(), Fail> {
     let body = usual()?;
-    assert!(rt; !body.exceeds(held_to(70, 5)));
-    assert!(rt; body.exceeds(held_to(69, 5)));
-    assert!(rt; body.exceeds(held_to(70, 4)));
-    assert_eq!(rt; body.capped(held_to(70, 5)).cost(250), body.cost(250));
-    assert_eq!(rt; body.capped(held_to(60, 5)).cost(250), 14_000);
-    assert_eq!(rt; body.capped(held_to(40, 5)).cost(250), 10_000);
+    for (energy, start, expected) in [(70, 5, false), (69, 5, true), (70, 4, true)] {
+        assert_eq!(rt;
+            body.exceeds(held_to(energy, start)),
+            expected,
+            "{energy}, {start}"
+        );
+    }
+    for (energy, expected) in [(70, body.cost(250)), (60, 14_000), (40, 10_000)] {
+        assert_eq!(rt;
+            body.capped(held_to(energy, 5)).cost(250),
+            expected,
+            "{energy}"
+        );
+    }
     Ok(())
 }
 
 #[test]
 fn no_book_admits(rt: HostRuntime) -> Result<(), Fail> {
-    let mut body = usual()?;
-    body.status = 9;
-    let ceilings = Ceilings {
-        energy: 0,
-        start: 0,
+    let body = Thermal {
+        status: 9,
+        ..usual()?
     };
+    let ceilings = held_to(0, 0);
     assert_eq!(rt; body.top(), 0);
     assert_eq!(rt; body.cost(100), 0);
     assert_eq!(rt; body.start_price(), 0);
@@ -203,22 +218,39 @@ fn is_idle(body: Thermal) -> bool {
 
 #[test]
 fn limits_of_any_book(rt: HostRuntime) -> Result<(), Fail> {
-    let mut body = usual()?;
-    body.emergency_max = 2_000_000;
-    assert!(rt; !is_idle(body));
-    body.emergency_max = 2_000_001;
-    assert!(rt; is_idle(body));
-    body.emergency_max = 300;
-    body.start_price = 1_000_000_000;
-    assert!(rt; !is_idle(body));
-    body.start_price = 1_000_000_001;
-    assert!(rt; is_idle(body));
-    body.start_price = -1;
-    assert!(rt; is_idle(body));
-    assert!(rt; !is_idle(with_steps(&[step(250, 10_000_000)])?));
-    assert!(rt; is_idle(with_steps(&[step(250, 10_000_001)])?));
-    assert!(rt; !is_idle(with_steps(&[step(250, -10_000_000)])?));
-    assert!(rt; is_idle(with_steps(&[step(250, -10_000_001)])?));
+    let usual = usual()?;
+    let limits = [
+        (2_000_000, 5, false),
+        (2_000_001, 5, true),
+        (300, 1_000_000_000, false),
+        (300, 1_000_000_001, true),
+        (300, -1, true),
+    ];
+    for (emergency_max, start_price, expected) in limits {
+        let body = Thermal {
+            emergency_max,
+            start_price,
+            ..usual
+        };
+        assert_eq!(rt;
+            is_idle(body),
+            expected,
+            "{emergency_max} kW, {start_price} a start"
+        );
+    }
+    let prices = [
+        (10_000_000, false),
+        (10_000_001, true),
+        (-10_000_000, false),
+        (-10_000_001, true),
+    ];
+    for (price, expected) in prices {
+        assert_eq!(rt;
+            is_idle(with_steps(&[step(250, price)])?),
+            expected,
+            "{price}"
+        );
+    }
     assert!(rt; is_idle(with_steps(&[])?));
     Ok(())
 }
@@ -226,16 +258,27 @@ fn limits_of_any_book(rt: HostRuntime) -> Result<(), Fail> {
 // The dearest and the cheapest hour that a book can have.
 #[test]
 fn extreme_costs(rt: HostRuntime) -> Result<(), Fail> {
-    let mut body = with_steps(&[step(2_000_000, 10_000_000)])?;
-    body.economic_max = 2_000_000;
-    body.emergency_max = 2_000_000;
-    assert_eq!(rt; body.cost(2_000_000), 20_000_000_000_000);
-    assert_eq!(rt; body.cost(i64::MIN), 0);
-    assert_eq!(rt; body.cost(i64::MAX), 0);
+    let body = Thermal {
+        economic_max: 2_000_000,
+        emergency_max: 2_000_000,
+        ..with_steps(&[step(2_000_000, 10_000_000)])?
+    };
+    let table = [
+        (2_000_000, 20_000_000_000_000),
+        (i64::MIN, 0),
+        (i64::MAX, 0),
+    ];
+    for (output, expected) in table {
+        assert_eq!(rt; body.cost(output), expected, "at {output} kW");
+    }
     let low = body.capped(held_to(-10_000_000, 0));
     assert_eq!(rt; low.cost(2_000_000), -20_000_000_000_000);
-    body.economic_max = i64::MAX;
-    assert!(rt; is_idle(body));
+    assert!(rt;
+        is_idle(Thermal {
+            economic_max: i64::MAX,
+            ..body
+        })
+    );
     Ok(())
 }
 
@@ -255,10 +298,19 @@ fn with_eighth(upper: i64, price: i64) -> Result<Thermal, Fail> {
 
 #[test]
 fn eighth_step(rt: HostRuntime) -> Result<(), Fail> {
-    assert!(rt; admitted(with_eighth(250, 100)?));
-    assert!(rt; !admitted(with_eighth(250, 101)?));
-    assert!(rt; !admitted(with_eighth(250, 6)?));
-    assert!(rt; !admitted(with_eighth(70, 100)?));
+    let table = [
+        (250, 100, true),
+        (250, 101, false),
+        (250, 6, false),
+        (70, 100, false),
+    ];
+    for (upper, price, expected) in table {
+        assert_eq!(rt;
+            admitted(with_eighth(upper, price)?),
+            expected,
+            "{upper} kW at {price}"
+        );
+    }
     let body = with_eighth(250, 100)?;
     assert!(rt; body.exceeds(held_to(99, 5)));
     assert!(rt; !body.exceeds(held_to(100, 5)));
@@ -276,9 +328,13 @@ fn rules_kept(rt: HostRuntime) -> Result<(), Fail> {
         floor: 50,
         cap: 70,
     };
-    assert!(rt; usual()?.keeps_rules(terms));
-    let mut body = usual()?;
-    body.emergency_max = 301;
-    assert!(rt; !body.keeps_rules(terms));
+    let usual = usual()?;
+    for (emergency_max, expected) in [(300, true), (301, false)] {
+        let body = Thermal {
+            emergency_max,
+            ..usual
+        };
+        assert_eq!(rt; body.keeps_rules(terms), expected, "{emergency_max} kW");
+    }
     Ok(())
 }

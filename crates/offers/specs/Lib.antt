@@ -1,3 +1,5 @@
+pub mod Bodies
+pub mod BodyLaws
 pub mod Laws
 pub mod Meaning
 pub mod Widest

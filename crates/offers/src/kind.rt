@@ -5,7 +5,7 @@ ghost use Rattle.offers.specs.Meaning.{Meaning};
 use crate::ceilings::Ceilings;
 use crate::terms::Terms;
 
-// A kind of offer. Code above it is proved once, for every kind, against the meaning and its laws.
+// A kind of offer. Code above it is proved once, for every kind, against the meaning and its laws. A type with the trait `Body` is one.
 pub trait Kind: Copy {
     ghost meaning: { Meaning Self };
 

@@ -1,32 +1,25 @@
--- Thermal offers show the laws of every kind.
-use Rattle.std.specs.Prelude.{◌≡◌, ◌-◌, ◌≤◌, Bool, true, false, cond, not, ◌&&◌, ◌||◌, List, [], ◌∷◌, length, ℤ, pos, ◌≤ℤ◌, Decides, int_le, int_lt, nat_le, refl}
-use Rattle.std.proofs.Common.{sym, ◌∙◌, ap, inl, inr, arith, leb-true, le-leb}
+-- Thermal bodies keep their rules, and are capped as every kind is.
+use Rattle.std.specs.Prelude.{◌≡◌, ◌-◌, ◌≤◌, true, false, List, [], ◌∷◌, length, ℤ, pos, ◌≤ℤ◌, Decides, int_lt, refl}
+use Rattle.std.proofs.Common.{sym, ◌∙◌, ap, arith, le-leb}
 use Rattle.std.specs.Int.Signed.{≤ℤ_refl}
 use Rattle.offers.specs.declared.ceilings.Ceilings.{Ceilings}
 use Rattle.offers.specs.declared.terms.Terms.{Terms}
-use Rattle.offers.specs.Laws.{Allowed, Filed, Idle, Lawful}
+use Rattle.offers.specs.Bodies.{Rules, Capping}
+use Rattle.offers.specs.BodyLaws.{lawful as body_lawful}
+use Rattle.offers.specs.Laws.{Allowed, Filed, Lawful}
 use Rattle.offers.specs.Widest.{widest_terms}
 use Rattle.std.specs.Int.{int_min}
 use Rattle.std.proofs.lemmas.Int.{ints, clamps}
-use Rattle.std.proofs.lemmas.Bool.{and_parts, and_from, and_left, and_right, or_from, or_parts, cond-true, cond-false, cases_Bool}
-use Rattle.std.proofs.lemmas.Bool.Decides.{not_from_Decides}
+use Rattle.std.proofs.lemmas.Bool.{and_from, or_from, or_parts, not-true, not_from_false}
+use Rattle.std.proofs.lemmas.Bool.Decides.{Decides-int_eq, Decides-not, not_from_Decides}
 use Rattle.curves.specs.declared.steps.Step.{Step}
-use Rattle.curves.specs.declared.steps.Steps.{Steps}
 use Rattle.thermal.specs.declared.Thermal.{Thermal}
-use Rattle.curves.specs.Curve.{upper_at, steps_in, lowered, above, climbs, cost_at, rises, last_upper}
-use Rattle.curves.specs.Priced.{step_cost}
-use Rattle.thermal.specs.Thermals.{Status, Economic, Emergency, Start, Admissible, good_status, good_economic, good_emergency, good_limits, good_start, good_steps, int_equal, admits, possible, capped_body, meaning, Rules}
+use Rattle.curves.specs.Curve.{upper_at, steps_in, lowered, above, climbs, rises, last_upper}
+use Rattle.thermal.specs.Thermals.{Status, Economic, Emergency, Start, Admissible, good_status, good_economic, good_emergency_min, good_emergency_max, good_start, good_steps, admits, capped_body, meaning, written}
 use Rattle.curves.proofs.Curves.{no_dearer, above_capped, above_lower, above_wider, lesser_own, rises_grows, rises_capped, last_capped, climbs_capped, climbs_wider, steps_lowered, lowered_own}
-use Rattle.curves.proofs.Decisions.{int_le_from, int_le_to, int_lt_not, outside_0}
-use Rattle.curves.proofs.Priced.{not_true, not_false, cost_told}
+use Rattle.curves.proofs.Decisions.{int_lt_not}
 use Rattle.curves.proofs.Places.{rising_decided, climbing_decided, above_decided, last_at}
 use Rattle.offers.proofs.WidestAllowed.{widest_allowed}
-
-equal_to : (a b : ℤ) → int_equal a b ≡ true → a ≡ b
-equal_to a b h = let p = and_parts (int_le a b) (int_le b a) h in let x = int_le_to a b p.0 in let y = int_le_to b a p.1 in omega (arith, ints)
-
-equal_from : (a b : ℤ) → a ≡ b → int_equal a b ≡ true
-equal_from a b h = and_from _ _ (int_le_from a b (omega (arith, ints))) (int_le_from b a (omega (arith, ints)))
 
 -- the rules as the tests have them
 pub record Passed (b : Thermal) (t : Terms) : Type 0 where
@@ -42,54 +35,40 @@ pub record Passed (b : Thermal) (t : Terms) : Type 0 where
   pub below : above t.cap (steps_in b.steps) ≡ false
 
 pub parts : (b : Thermal) (t : Terms) → admits b t ≡ true → Passed b t
-parts b t h =
-    let ss = steps_in b.steps in
-    let p = and_parts (good_status b) (good_limits b t.maximum && (good_start b && good_steps b t.floor t.cap)) h in
-    let q = and_parts (good_limits b t.maximum) (good_start b && good_steps b t.floor t.cap) p.1 in
-    let r = and_parts (good_start b) (good_steps b t.floor t.cap) q.1 in
-    let status = and_parts (int_le (pos 0) b.status) (int_le b.status (pos 2)) p.0 in
-    let limits = and_parts (good_economic b) (good_emergency b t.maximum) q.0 in
-    let economic = and_parts (int_le (pos 0) b.economic_min) (int_le b.economic_min b.economic_max) limits.0 in
-    let e3 = and_parts ((int_le (pos 0) b.emergency_min && int_le b.emergency_min b.economic_min) && int_le b.economic_max b.emergency_max) (int_le b.emergency_max t.maximum) limits.1 in
-    let e2 = and_parts (int_le (pos 0) b.emergency_min && int_le b.emergency_min b.economic_min) (int_le b.economic_max b.emergency_max) e3.0 in
-    let e1 = and_parts (int_le (pos 0) b.emergency_min) (int_le b.emergency_min b.economic_min) e2.0 in
-    let start = and_parts (int_le (pos 0) b.start_price) (int_le b.start_price (pos 1000000000)) r.0 in
-    let u = and_parts (nat_le 1 b.steps.count && nat_le b.steps.count 8) (rises (pos 0) ss && (int_equal (last_upper (pos 0) ss) b.economic_max && (climbs t.floor ss && not (above t.cap ss)))) r.1 in
-    let v = and_parts (nat_le 1 b.steps.count) (nat_le b.steps.count 8) u.0 in
-    let w = and_parts (rises (pos 0) ss) (int_equal (last_upper (pos 0) ss) b.economic_max && (climbs t.floor ss && not (above t.cap ss))) u.1 in
-    let x = and_parts (int_equal (last_upper (pos 0) ss) b.economic_max) (climbs t.floor ss && not (above t.cap ss)) w.1 in
-    let y = and_parts (climbs t.floor ss) (not (above t.cap ss)) x.1 in
-    record {
-      status = record { low = int_le_to _ _ status.0; high = int_le_to _ _ status.1 };
-      economic = record { low = int_le_to _ _ economic.0; ordered = int_le_to _ _ economic.1 };
-      emergency = record { low = int_le_to _ _ e1.0; minimums = int_le_to _ _ e1.1; maximums = int_le_to _ _ e2.1; registered = int_le_to _ _ e3.1 };
-      start = record { low = int_le_to _ _ start.0; high = int_le_to _ _ start.1 };
-      some = leb-true _ _ v.0;
-      few = leb-true _ _ v.1;
-      rising = w.0;
-      last = equal_to _ _ x.0;
-      climbing = y.0;
-      below = not_true _ y.1;
-    }
+parts b t h = record {
+  status = record { low = grind (arith, ints); high = grind (arith, ints) };
+  economic = record { low = grind (arith, ints); ordered = grind (arith, ints) };
+  emergency = record { low = grind (arith, ints); minimums = grind (arith, ints); maximums = grind (arith, ints); registered = grind (arith, ints) };
+  start = record { low = grind (arith, ints); high = grind (arith, ints) };
+  some = grind (arith, ints);
+  few = grind (arith, ints);
+  rising = grind (arith, ints);
+  last = grind (arith, ints);
+  climbing = grind (arith, ints);
+  below = grind (arith, ints);
+}
+
+steps_whole : (b : Thermal) (t : Terms) → Passed b t → good_steps b t.floor t.cap ≡ true
+steps_whole b t h =
+    and_from _ _ (and_from _ _ (le-leb _ _ h.some) (le-leb _ _ h.few))
+    (and_from _ _ h.rising (and_from _ _ ((Decides-int_eq _ _).1 h.last) (and_from _ _ h.climbing (not_from_false _ h.below))))
 
 whole : (b : Thermal) (t : Terms) → Passed b t → admits b t ≡ true
 whole b t h =
-    let e = h.emergency in
-    and_from _ _ (and_from _ _ (int_le_from _ _ h.status.low) (int_le_from _ _ h.status.high))
-    (and_from _ _
-    (and_from _ _ (and_from _ _ (int_le_from _ _ h.economic.low) (int_le_from _ _ h.economic.ordered))
-    (and_from _ _ (and_from _ _ (and_from _ _ (int_le_from _ _ e.low) (int_le_from _ _ e.minimums)) (int_le_from _ _ e.maximums)) (int_le_from _ _ e.registered)))
-    (and_from _ _ (and_from _ _ (int_le_from _ _ h.start.low) (int_le_from _ _ h.start.high))
-    (and_from _ _ (and_from _ _ (le-leb _ _ h.some) (le-leb _ _ h.few))
-    (and_from _ _ h.rising (and_from _ _ (equal_from _ _ h.last) (and_from _ _ h.climbing (not_false _ h.below)))))))
+    let status = h.status in
+    let economic = h.economic in
+    let emergency = h.emergency in
+    let start = h.start in
+    let status_good : good_status b ≡ true = grind (arith, ints) in
+    let economic_good : good_economic b ≡ true = grind (arith, ints) in
+    let min_good : good_emergency_min b ≡ true = grind (arith, ints) in
+    let max_good : good_emergency_max b t.maximum ≡ true = grind (arith, ints) in
+    let start_good : good_start b ≡ true = grind (arith, ints) in
+    and_from _ _ status_good (and_from _ _ (and_from _ _ (and_from _ _ economic_good min_good) max_good) (and_from _ _ start_good (steps_whole b t h)))
 
 last_is : (ss : List Step) → last_upper (pos 0) ss ≡ upper_at ss (length ss - 1)
 last_is [] = refl
 last_is (s ∷ ss) = last_at (pos 0) (s ∷ ss) (omega arith)
-
-none_above : (x : Bool) (P : Type 0) → Decides x P → (P → ⊥) → x ≡ false
-none_above true P d n = absurd (n (d.0 refl))
-none_above false P d n = refl
 
 -- the tests decide the rules
 pub decided : (b : Thermal) (t : Terms) → Decides (admits b t) (Admissible b t)
@@ -119,11 +98,11 @@ decided b t =
         rising = (rising_decided ss).1 a.steps.rising;
         last = last_is ss ∙ a.steps.last;
         climbing = (climbing_decided t.floor ss).1 a.steps.climbing;
-        below = none_above _ _ (above_decided t.cap ss) a.steps.below;
+        below = not-true _ ((Decides-not _ (above_decided t.cap ss)).1 a.steps.below);
       })),
     )
 
-widest : (b : Thermal) (t : Terms) → Allowed t → admits b t ≡ true → possible b ≡ true
+widest : (b : Thermal) (t : Terms) → Allowed t → admits b t ≡ true → admits b widest_terms ≡ true
 widest b t l h =
     let a = parts b t h in
     let e = a.emergency in
@@ -141,31 +120,10 @@ widest b t l h =
       below = above_wider t.cap widest_terms.cap ss a.below l.highest;
     })
 
--- a body that some book admits has the cost that its steps tell
-pub cost_is : (b : Thermal) (q : ℤ) → possible b ≡ true → pos 0 ≤ℤ q → q ≤ℤ b.economic_max → step_cost b.steps q ≡ meaning.cost b q
-cost_is b q h low high =
-    let a = parts b widest_terms h in
-    let t = and_from (possible b) (int_le (pos 0) q && int_le q b.economic_max) h (and_from _ _ (int_le_from _ _ low) (int_le_from _ _ high)) in
-    cost_told b.steps q a.few a.rising a.climbing a.below low (omega (arith, ints)) ∙ sym (cond-true _ _ _ t)
+pub rules : Rules written Admissible
+rules = record { decides = decided; widest = widest; allowed = widest_allowed }
 
-abbrev with_prices : Thermal → ℤ → Steps → Thermal
-with_prices b p s = record {
-  status = b.status;
-  emergency_min = b.emergency_min;
-  economic_min = b.economic_min;
-  economic_max = b.economic_max;
-  emergency_max = b.emergency_max;
-  start_price = p;
-  steps = s;
-}
-
-module _ (b : Thermal) (t : Terms) (c : Ceilings) (h : Filed meaning b t c) where
-  can : possible b ≡ true
-  can = widest b t h.allowed h.admitted
-
-  lowers : meaning.capped b c ≡ capped_body b c
-  lowers = cond-true _ _ _ can
-
+module _ (b : Thermal) (t : Terms) (c : Ceilings) (h : Filed written b t c) where
   stays : admits (capped_body b c) t ≡ true
   stays =
       let a = parts b t h.admitted in
@@ -186,61 +144,35 @@ module _ (b : Thermal) (t : Terms) (c : Ceilings) (h : Filed meaning b t c) wher
         below = ap (above t.cap) w ∙ above_lower c.energy t.cap ss a.below;
       })
 
-  still : possible (capped_body b c) ≡ true
-  still = widest (capped_body b c) t h.allowed stays
-
-  top_same : meaning.top (capped_body b c) ≡ meaning.top b
-  top_same = cond-true _ _ _ still ∙ sym (cond-true _ _ _ can)
-
-  none : meaning.exceeds (capped_body b c) c ≡ false
+  none : written.exceeds (capped_body b c) c ≡ false
   none =
       let p : int_min b.start_price c.start ≤ℤ c.start = omega (arith, ints, clamps) in
-      and_right _ _ (or_from _ _ (ap (above c.energy) (steps_lowered b.steps c.energy) ∙ above_capped c.energy (steps_in b.steps)) (int_lt_not _ _ p))
+      or_from _ _ (ap (above c.energy) (steps_lowered b.steps c.energy) ∙ above_capped c.energy (steps_in b.steps)) (int_lt_not _ _ p)
 
-  less : (q : ℤ) → meaning.cost (capped_body b c) q ≤ℤ meaning.cost b q
+  less : (q : ℤ) → written.cost (capped_body b c) q ≤ℤ written.cost b q
   less q =
       let a = parts b t h.admitted in
       let ss = steps_in b.steps in
-      let r : Bool = int_le (pos 0) q && int_le q b.economic_max in
-      let x : cost_at q (steps_in (lowered b.steps c.energy)) ≤ℤ cost_at q ss = rw (steps_lowered b.steps c.energy) (no_dearer q (pos 0) c.energy ss (rises_grows (pos 0) ss a.rising)) in
-      rw (still, can) (elim r as (λ v. cond v (cost_at q (steps_in (lowered b.steps c.energy))) (pos 0) ≤ℤ cond v (cost_at q ss) (pos 0)) [ true ↦ x | false ↦ ≤ℤ_refl (pos 0) ])
-
-  start_less : meaning.start (capped_body b c) ≤ℤ meaning.start b
-  start_less = rw (still, can) (omega (arith, ints, clamps))
+      rw (steps_lowered b.steps c.energy) (no_dearer q (pos 0) c.energy ss (rises_grows (pos 0) ss a.rising))
 
 -- where no price is above its ceiling, capping changes nothing
-own : (b : Thermal) (c : Ceilings) → meaning.exceeds b c ≡ false → meaning.capped b c ≡ b
-own b c x = elim (cases_Bool (possible b)) [
-  | inl can ↦ (
-      let e = above c.energy (steps_in b.steps) in
-      let s = int_lt c.start b.start_price in
-      let y = or_parts e s (sym (ap (λ v. v && (e || s)) can) ∙ x) in
-      let u : lowered b.steps c.energy ≡ b.steps = lowered_own b.steps c.energy y.0 in
-      let v : int_min b.start_price c.start ≡ b.start_price = lesser_own b.start_price c.start y.1 in
-      cond-true _ _ _ can ∙ ap (λ p. with_prices b p (lowered b.steps c.energy)) v ∙ ap (λ l. with_prices b b.start_price l) u)
-  | inr not_so ↦ cond-false _ _ _ not_so
-]
+own : (b : Thermal) (c : Ceilings) → written.exceeds b c ≡ false → capped_body b c ≡ b
+own b c x =
+    let y = or_parts (above c.energy (steps_in b.steps)) (int_lt c.start b.start_price) x in
+    let u : lowered b.steps c.energy ≡ b.steps = lowered_own b.steps c.energy y.0 in
+    let v : int_min b.start_price c.start ≡ b.start_price = lesser_own b.start_price c.start y.1 in
+    ap (λ p. record b { start_price = p; steps = lowered b.steps c.energy }) v ∙ ap (λ l. record b { steps = l }) u
 
-idles : (b : Thermal) → possible b ≡ false → Idle meaning b
-idles b x = record {
-  top = cond-false _ _ _ x;
-  cost = λ q. cond-false _ _ _ (and_left _ _ x);
-  start = cond-false _ _ _ x;
-  exceeds = λ c. and_left _ _ x;
-  capped = λ c. cond-false _ _ _ x;
-}
-
-pub lawful : Lawful meaning
-lawful = record {
-  stays_admissible = λ b t c h. rw (lowers b t c h) (stays b t c h);
-  same_top = λ b t c h. rw (lowers b t c h) (top_same b t c h);
-  exceeds_none = λ b t c h. rw (lowers b t c h) (none b t c h);
+pub capping : Capping written
+capping = record {
+  stays_admissible = stays;
+  same_top = λ b t c h. refl;
+  exceeds_none = none;
   own = own;
-  no_dearer = λ b t c h q. rw (lowers b t c h) (less b t c h q);
-  start_no_dearer = λ b t c h. rw (lowers b t c h) (start_less b t c h);
-  idle = λ b h. idles b (h widest_terms widest_allowed);
-  outside = λ b q h. outside_0 (possible b) q b.economic_max _ h;
+  no_dearer = λ b t c h q low high. less b t c h q;
+  start_no_dearer = λ b t c h. omega (arith, ints, clamps);
 }
 
-pub rules : Rules
-rules = record { decides = decided; widest = widest; allowed = widest_allowed }
+-- so their meaning shows the laws of every kind
+pub lawful : Lawful meaning
+lawful = body_lawful written Admissible rules capping

@@ -1,11 +1,11 @@
 -- The offer of a thermal unit.
-use Rattle.std.specs.Prelude.{◌≡◌, ◌-◌, ◌≤◌, Bool, true, cond, not, ◌&&◌, ◌||◌, length, ℤ, pos, ◌≤ℤ◌, Decides, int_le, int_lt, nat_le}
+use Rattle.std.specs.Prelude.{◌≡◌, ◌-◌, ◌≤◌, Bool, not, ◌&&◌, ◌||◌, length, ℤ, pos, ◌≤ℤ◌, int_le, int_lt, nat_le}
 use Rattle.offers.specs.declared.ceilings.Ceilings.{Ceilings}
 use Rattle.offers.specs.declared.terms.Terms.{Terms}
-use Rattle.offers.specs.Laws.{Allowed}
+use Rattle.offers.specs.Bodies.{priced}
 use Rattle.offers.specs.Meaning.{Meaning}
-use Rattle.offers.specs.Widest.{widest_terms}
 use Rattle.std.specs.Int.{int_min}
+use Rattle.std.specs.Ordering.{int_eq}
 use Rattle.thermal.specs.declared.Thermal.{Thermal}
 use Rattle.curves.specs.Curve.{Rising, Climbing, Above, upper_at, steps_in, lowered, rises, climbs, above, last_upper, cost_at}
 
@@ -55,56 +55,41 @@ good_status b = int_le (pos 0) b.status && int_le b.status (pos 2)
 abbrev pub good_economic : Thermal → Bool
 good_economic b = int_le (pos 0) b.economic_min && int_le b.economic_min b.economic_max
 
-abbrev pub good_emergency : Thermal → ℤ → Bool
-good_emergency b max = ((int_le (pos 0) b.emergency_min && int_le b.emergency_min b.economic_min) && int_le b.economic_max b.emergency_max) && int_le b.emergency_max max
+abbrev pub good_emergency_min : Thermal → Bool
+good_emergency_min b = int_le (pos 0) b.emergency_min && int_le b.emergency_min b.economic_min
+
+abbrev pub good_emergency_max : Thermal → ℤ → Bool
+good_emergency_max b max = int_le b.economic_max b.emergency_max && int_le b.emergency_max max
 
 abbrev pub good_limits : Thermal → ℤ → Bool
-good_limits b max = good_economic b && good_emergency b max
+good_limits b max = (good_economic b && good_emergency_min b) && good_emergency_max b max
 
 abbrev pub good_start : Thermal → Bool
 good_start b = int_le (pos 0) b.start_price && int_le b.start_price (pos 1000000000)
 
-abbrev pub int_equal : ℤ → ℤ → Bool
-int_equal a b = int_le a b && int_le b a
-
 abbrev pub good_steps : Thermal → ℤ → ℤ → Bool
 good_steps b floor cap =
     (nat_le 1 b.steps.count && nat_le b.steps.count 8)
-    && (rises (pos 0) (steps_in b.steps) && (int_equal (last_upper (pos 0) (steps_in b.steps)) b.economic_max && (climbs floor (steps_in b.steps) && not (above cap (steps_in b.steps)))))
+    && (rises (pos 0) (steps_in b.steps) && (int_eq (last_upper (pos 0) (steps_in b.steps)) b.economic_max && (climbs floor (steps_in b.steps) && not (above cap (steps_in b.steps)))))
 
 abbrev pub admits : Thermal → Terms → Bool
 admits b t = good_status b && (good_limits b t.maximum && (good_start b && good_steps b t.floor t.cap))
 
--- some book admits it
-abbrev pub possible : Thermal → Bool
-possible b = admits b widest_terms
-
 -- each price the lesser of itself and its ceiling
 abbrev pub capped_body : Thermal → Ceilings → Thermal
-capped_body b c = record {
-  status = b.status;
-  emergency_min = b.emergency_min;
-  economic_min = b.economic_min;
-  economic_max = b.economic_max;
-  emergency_max = b.emergency_max;
-  start_price = int_min b.start_price c.start;
-  steps = lowered b.steps c.energy;
-}
+capped_body b c = record b { start_price = int_min b.start_price c.start; steps = lowered b.steps c.energy }
 
--- top is the economic maximum; what no book admits is idle
-abbrev pub meaning : Meaning Thermal
-meaning = record {
+-- what a body says by itself: top is the economic maximum
+abbrev pub written : Meaning Thermal
+written = record {
   admits = admits;
-  top = λ b. cond (possible b) b.economic_max (pos 0);
-  cost = λ b q. cond (possible b && (int_le (pos 0) q && int_le q b.economic_max)) (cost_at q (steps_in b.steps)) (pos 0);
-  start = λ b. cond (possible b) b.start_price (pos 0);
-  exceeds = λ b c. possible b && (above c.energy (steps_in b.steps) || int_lt c.start b.start_price);
-  capped = λ b c. cond (possible b) (capped_body b c) b;
+  top = λ b. b.economic_max;
+  cost = λ b q. cost_at q (steps_in b.steps);
+  start = λ b. b.start_price;
+  exceeds = λ b c. above c.energy (steps_in b.steps) || int_lt c.start b.start_price;
+  capped = capped_body;
 }
 
-pub record Rules : Type 0 where
-  -- the test of admission says whether the rules are kept
-  pub decides : (b : Thermal) (t : Terms) → Decides (admits b t) (Admissible b t)
-  -- a body that some book admits is admitted on the widest terms, and these are a book's
-  pub widest : (b : Thermal) (t : Terms) → Allowed t → admits b t ≡ true → admits b widest_terms ≡ true
-  pub allowed : Allowed widest_terms
+-- what it means: what no book admits is idle
+abbrev pub meaning : Meaning Thermal
+meaning = priced written

@@ -1,19 +1,19 @@
 // Offers of thermal units.
 #![tactic(auto)]
 
-ghost use Rattle.std.specs.Prelude.{◌≡◌, Decides};
-ghost use Rattle.thermal.specs.Thermals.{meaning as offered, possible, good_status, good_limits, good_economic, good_emergency, good_start, good_steps, Admissible, Rules};
+ghost use Rattle.std.specs.Prelude.{◌≡◌};
+ghost use Rattle.thermal.specs.Thermals.{Admissible, written, good_status, good_limits, good_economic, good_emergency_min, good_emergency_max, good_start, good_steps};
 ghost use Rattle.thermal.specs.ThermalLaws;
 
 use curves::steps::{PLACES, Steps};
-use offers::ceilings::Ceilings;
-use offers::kind::Kind;
+use offers::body::Body;
+use offers::ceilings::{Ceilings, MAX_START};
 use offers::terms::Terms;
 
 // The offer of a thermal unit: limits in kW, start price in centavos, and steps.
 #[derive(Clone, Copy)]
 pub struct Thermal {
-    // 0 not available, 1 economic, 2 must-run
+    // 0 not available, 1 economic, 2 must-run; a number, since a body may say anything and a bad one is refused
     pub status: i64,
     pub emergency_min: i64,
     pub economic_min: i64,
@@ -24,45 +24,40 @@ pub struct Thermal {
 }
 
 impl Thermal {
-    // Whether the body keeps every rule of admission.
-    pub fn keeps_rules(&self, terms: Terms) -> bool
-        ensures kept { Decides result (Admissible self.now terms) }
-        ensures rules { Rules }
-    {
-        self.admissible(terms)
-    }
-
     fn has_status(&self) -> bool
         ensures { result ≡ good_status self.now }
     {
-        0 <= self.status && self.status <= 2
+        (0..=2).contains(&self.status)
     }
 
     fn has_limits(&self, maximum: i64) -> bool
         ensures { result ≡ good_limits self.now maximum }
     {
-        self.has_economic_limits() && self.has_emergency_limits(maximum)
+        self.has_economic_limits() && self.has_emergency_min() && self.has_emergency_max(maximum)
     }
 
     fn has_economic_limits(&self) -> bool
         ensures { result ≡ good_economic self.now }
     {
-        0 <= self.economic_min && self.economic_min <= self.economic_max
+        (0..=self.economic_max).contains(&self.economic_min)
     }
 
-    fn has_emergency_limits(&self, maximum: i64) -> bool
-        ensures { result ≡ good_emergency self.now maximum }
+    fn has_emergency_min(&self) -> bool
+        ensures { result ≡ good_emergency_min self.now }
     {
-        (0 <= self.emergency_min)
-            & (self.emergency_min <= self.economic_min)
-            & (self.economic_max <= self.emergency_max)
-            & (self.emergency_max <= maximum)
+        (0..=self.economic_min).contains(&self.emergency_min)
+    }
+
+    fn has_emergency_max(&self, maximum: i64) -> bool
+        ensures { result ≡ good_emergency_max self.now maximum }
+    {
+        (self.economic_max..=maximum).contains(&self.emergency_max)
     }
 
     fn has_start_price(&self) -> bool
         ensures { result ≡ good_start self.now }
     {
-        0 <= self.start_price && self.start_price <= 1_000_000_000
+        (0..=MAX_START).contains(&self.start_price)
     }
 
     fn has_steps(&self, floor: i64, cap: i64) -> bool
@@ -76,63 +71,45 @@ impl Thermal {
             && steps.is_climbing(floor)
             && !steps.is_above(cap)
     }
-
-    // Whether some book admits the body.
-    fn is_possible(&self) -> bool
-        ensures { result ≡ possible self.now }
-    {
-        self.admissible(Terms::widest())
-    }
 }
 
-impl Kind for Thermal {
-    ghost meaning = { offered };
+impl Body for Thermal {
+    ghost figures = { written };
 
-    ghost lawful = { ThermalLaws.lawful };
+    ghost Keeps = { Admissible };
 
-    fn admissible(&self, terms: Terms) -> bool {
+    fn fits(&self, terms: Terms) -> bool {
         self.has_status()
             && self.has_limits(terms.maximum)
             && self.has_start_price()
             && self.has_steps(terms.floor, terms.cap)
     }
 
-    fn top(&self) -> i64 {
-        if self.is_possible() {
-            self.economic_max
-        } else {
-            0
+    fn limit(&self) -> i64 {
+        self.economic_max
+    }
+
+    fn hour_cost(&self, output: i64) -> i64 {
+        self.steps.cost(output)
+    }
+
+    fn start(&self) -> i64 {
+        self.start_price
+    }
+
+    fn is_above(&self, ceilings: Ceilings) -> bool {
+        self.steps.is_above(ceilings.energy) || self.start_price > ceilings.start
+    }
+
+    fn lowered(&self, ceilings: Ceilings) -> Thermal {
+        Thermal {
+            start_price: self.start_price.min(ceilings.start),
+            steps: self.steps.capped(ceilings.energy),
+            ..*self
         }
     }
 
-    fn cost(&self, output: i64) -> i64 {
-        if self.is_possible() && 0 <= output && output <= self.economic_max {
-            self.steps.cost(output)
-        } else {
-            0
-        }
-    }
+    ghost rules = { ThermalLaws.rules };
 
-    fn start_price(&self) -> i64 {
-        if self.is_possible() {
-            self.start_price
-        } else {
-            0
-        }
-    }
-
-    fn exceeds(&self, ceilings: Ceilings) -> bool {
-        self.is_possible()
-            && (self.steps.is_above(ceilings.energy) || self.start_price > ceilings.start)
-    }
-
-    fn capped(&self, ceilings: Ceilings) -> Thermal {
-        if !self.is_possible() {
-            return *self;
-        }
-        let mut out = *self;
-        out.start_price = self.start_price.min(ceilings.start);
-        out.steps = self.steps.capped(ceilings.energy);
-        out
-    }
+    ghost capping = { ThermalLaws.capping };
 }

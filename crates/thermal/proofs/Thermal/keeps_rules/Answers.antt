@@ -1,6 +1,0 @@
-use Rattle.std.proofs.lemmas.Bool.Decides.{Decides-at}
-use Rattle.thermal.specs.ThermalLaws.{decided, rules}
-use Rattle.thermal.proofs.Thermal.keeps_rules.Goals as goal
-
-pub returns : goal.returns
-returns c = record { kept = Decides-at _ _ c.admissible.ensures (decided c.args.self.now c.args.terms); rules = rules }
