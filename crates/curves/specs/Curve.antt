@@ -1,8 +1,10 @@
 -- The steps of an offer: each an upper kW and a price in centavos per MWh.
-use Rattle.std.specs.Prelude.{ℕ, zero, suc, ◌-◌, ◌<◌, Bool, true, false, ◌&&◌, ◌||◌, List, [], ◌∷◌, ◌++◌, map, length, take, drop, replicate, ℤ, pos, ◌+ℤ◌, ◌-ℤ◌, ◌*ℤ◌, ◌≤ℤ◌, ◌<ℤ◌, int_le, int_lt, slice_index_or}
+use Rattle.std.specs.Prelude.{ℕ, zero, suc, ◌-◌, ◌<◌, Bool, true, ◌&&◌, List, [], ◌∷◌, ◌++◌, map, length, take, drop, replicate, ℤ, pos, ◌+ℤ◌, ◌-ℤ◌, ◌*ℤ◌, ◌≤ℤ◌, ◌<ℤ◌, int_le, int_lt, slice_index_or}
 use Rattle.std.specs.Int.{int_min}
+use Rattle.std.specs.List.{list_any}
 use Rattle.curves.specs.declared.steps.Step.{Step}
 use Rattle.curves.specs.declared.steps.Steps.{Steps}
+use Rattle.curves.specs.declared.steps.TheConstants.{PLACES}
 
 -- the steps of a body
 abbrev pub steps_in : Steps → List Step
@@ -10,7 +12,7 @@ steps_in s = take s.count s.places
 
 -- these steps in their places, and no step in the others
 abbrev pub packed : List Step → Steps
-packed ss = record { places = ss ++ replicate (8 - length ss) (record { upper = pos 0; price = pos 0 }); count = length ss }
+packed ss = record { places = ss ++ replicate (PLACES - length ss) (record { upper = pos 0; price = pos 0 }); count = length ss }
 
 -- the part of output q that the step above `lower` kW has
 abbrev pub part_of : ℤ → ℤ → Step → ℤ
@@ -81,8 +83,7 @@ climbs low [] = true
 climbs low (s ∷ ss) = int_le low s.price && climbs s.price ss
 
 abbrev pub above : ℤ → List Step → Bool
-above e [] = false
-above e (s ∷ ss) = int_lt e s.price || above e ss
+above e ss = list_any (λ s. int_lt e s.price) ss
 
 -- the last upper kW, 0 with no step
 abbrev pub last_upper : ℤ → List Step → ℤ
