@@ -1,15 +1,14 @@
 -- Costs and capped prices of a curve, step by step.
-use Rattle.std.proofs.Common.{◌≡◌, ℕ, zero, suc, ◌+◌, ◌-◌, ◌*◌, ◌<◌, ◌≤◌, min, true, false, ◌&&◌, List, [], ◌∷◌, ◌++◌, map, length, get_or, take, drop, replicate, ℤ, pos, ◌+ℤ◌, ◌-ℤ◌, neg_ℤ, ◌≤ℤ◌, sym, refl, ap, ◌∙◌, inl, inr, arith, take-append-drop, take_all, w64, SFits}
+use Rattle.std.proofs.Common.{◌≡◌, ℕ, ◌+◌, ◌*◌, ◌<◌, ◌≤◌, true, false, ◌&&◌, List, [], ◌∷◌, length, get_or, drop, ℤ, pos, ◌+ℤ◌, ◌-ℤ◌, neg_ℤ, ◌≤ℤ◌, sym, refl, ap, ◌∙◌, arith, w64, SFits}
 use lib.IntN.{+ℤ_idl, +ℤ_idr, +ℤ_assoc}
 use lib.Signed.{le_z, lt_z, ≤ℤ_refl}
 use Rattle.std.specs.Int.{int_min}
-use Rattle.std.proofs.lemmas.List.{at_drop_more, at_drop_all, drop_all, drop-replicate}
+use Rattle.std.proofs.lemmas.List.{at_drop_more, at_drop_all}
 use Rattle.std.proofs.lemmas.Int.{ints, clamps}
-use Rattle.std.proofs.lemmas.Bool.{and_parts, and_from, or_parts, or_from, cond-false, cases_lt}
+use Rattle.std.proofs.lemmas.Bool.{and_parts, and_from, or_parts, or_from, cond-false}
 use Rattle.curves.specs.declared.steps.Step.{Step}
-use Rattle.curves.specs.declared.steps.Steps.{Steps}
 use Rattle.curves.specs.declared.steps.TheConstants.{PLACES, MOST_OUTPUT, MOST_PRICE}
-use Rattle.curves.specs.Curve.{no_step, steps_in, packed, part_cost, cost_above, cost_at, capped_step, capped_steps, lowered, rises, climbs, above, last_upper}
+use Rattle.curves.specs.Curve.{no_step, part_cost, cost_above, cost_at, capped_step, capped_steps, rises, climbs, above, last_upper}
 use Rattle.curves.specs.Fits.{PartFits, CostFits}
 use Rattle.curves.proofs.Decisions.{int_le_from, int_le_to, int_lt_to, int_lt_not, int_lt_not_to}
 use Rattle.curves.proofs.Products.{times_mono, times_high, times_low}
@@ -93,26 +92,14 @@ above_capped e (s ∷ ss) =
 pub lesser_own : (p e : ℤ) → lt_z e p ≡ false → int_min p e ≡ p
 lesser_own p e h = cond-false _ _ _ h
 
-own : (e : ℤ) (ss : List Step) → above e ss ≡ false → capped_steps e ss ≡ ss
-own e [] h = refl
-own e (s ∷ ss) h =
+-- prices that are not above the ceiling are their own capped prices
+pub capped_own : (e : ℤ) (ss : List Step) → above e ss ≡ false → capped_steps e ss ≡ ss
+capped_own e [] h = refl
+capped_own e (s ∷ ss) h =
     let p = or_parts (lt_z e s.price) (above e ss) h in
     let a : capped_step e s ≡ s = ap (λ x. record { upper = s.upper; price = x }) (lesser_own s.price e p.0) in
-    let b = own e ss p.1 in
+    let b = capped_own e ss p.1 in
     cc
-
-taken : {X : Type 0} (f : X → X) (n : ℕ) (xs : List X) → take n (map f (take n xs) ++ drop n xs) ≡ map f (take n xs)
-taken f zero xs = refl
-taken f (suc n) [] = refl
-taken f (suc n) (x ∷ xs) = ap (λ l. f x ∷ l) (taken f n xs)
-
-pub steps_lowered : (s : Steps) (e : ℤ) → steps_in (lowered s e) ≡ capped_steps e (steps_in s)
-steps_lowered s e = taken (capped_step e) s.count s.places
-
-pub lowered_own : (s : Steps) (e : ℤ) → above e (steps_in s) ≡ false → lowered s e ≡ s
-lowered_own s e h =
-    let p : (capped_steps e (steps_in s) ++ drop s.count s.places) ≡ s.places = rw (own e (steps_in s) h) (take-append-drop s.count s.places) in
-    ap (λ l. record { places = l; count = s.count }) p
 
 -- the most that a step adds to a cost, either way
 abbrev pub most_part : ℕ
@@ -211,16 +198,3 @@ module _ (q : ℤ) (all : List Step) (lower sum : ℤ) (i : ℕ) (h : Running q 
 
 pub running_all : (q : ℤ) (all : List Step) (lower sum : ℤ) (i : ℕ) → Running q all lower sum i → length all ≤ i → cost_at q all ≡ sum
 running_all q all lower sum i h t = h.value ∙ ap (λ x. sum +ℤ x) (at_drop_all (cost_above q lower) all i t) ∙ +ℤ_idr sum
-
--- the used places are the same by the count and by the count held to the places that there are
-pub take_held : (ss : List Step) (n m : ℕ) → length ss ≡ PLACES → m ≡ min n PLACES → take m ss ≡ take n ss
-take_held ss n m e h = elim (cases_lt PLACES n) [ inl p ↦ (take_all m ss (omega arith) ∙ sym (take_all n ss (omega arith))) | inr p ↦ (let q : m ≡ n = omega arith in ap (λ k. take k ss) q) ]
-
-pub drop_held : (ss : List Step) (n m : ℕ) → length ss ≡ PLACES → m ≡ min n PLACES → drop m ss ≡ drop n ss
-drop_held ss n m e h = elim (cases_lt PLACES n) [ inl p ↦ (drop_all m ss (omega arith) ∙ sym (drop_all n ss (omega arith))) | inr p ↦ (let q : m ≡ n = omega arith in ap (λ k. drop k ss) q) ]
-
--- steps copied over the first of the empty places
-pub packed_is : (ss front : List Step) (n : ℕ) → front ≡ ss → n ≡ length ss → record { places = front ++ drop n (replicate PLACES no_step); count = length ss } ≡ packed ss
-packed_is ss front n copied all =
-    let rest : drop n (replicate PLACES no_step) ≡ replicate (PLACES - length ss) no_step = drop-replicate n PLACES no_step ∙ ap (λ k. replicate (PLACES - k) no_step) all in
-    rw (copied, rest) refl

@@ -1,18 +1,8 @@
 -- The steps of an offer: each an upper kW and a price in centavos per MWh.
-use Rattle.std.specs.Prelude.{ℕ, zero, suc, ◌-◌, ◌<◌, Bool, true, ◌&&◌, List, [], ◌∷◌, ◌++◌, map, length, take, drop, replicate, ℤ, pos, ◌+ℤ◌, ◌-ℤ◌, ◌*ℤ◌, ◌≤ℤ◌, ◌<ℤ◌, int_le, int_lt, slice_index_or}
+use Rattle.std.specs.Prelude.{ℕ, zero, suc, ◌<◌, Bool, true, ◌&&◌, List, [], ◌∷◌, map, length, ℤ, pos, ◌+ℤ◌, ◌-ℤ◌, ◌*ℤ◌, ◌≤ℤ◌, ◌<ℤ◌, int_le, int_lt, slice_index_or}
 use Rattle.std.specs.Int.{int_min}
 use Rattle.std.specs.List.{list_any}
 use Rattle.curves.specs.declared.steps.Step.{Step}
-use Rattle.curves.specs.declared.steps.Steps.{Steps}
-use Rattle.curves.specs.declared.steps.TheConstants.{PLACES}
-
--- the steps of a body
-abbrev pub steps_in : Steps → List Step
-steps_in s = take s.count s.places
-
--- these steps in their places, and no step in the others
-abbrev pub packed : List Step → Steps
-packed ss = record { places = ss ++ replicate (PLACES - length ss) (record { upper = pos 0; price = pos 0 }); count = length ss }
 
 -- the part of output q that the step above `lower` kW has
 abbrev pub part_of : ℤ → ℤ → Step → ℤ
@@ -37,10 +27,6 @@ capped_step e s = record { upper = s.upper; price = int_min s.price e }
 
 abbrev pub capped_steps : ℤ → List Step → List Step
 capped_steps e ss = map (capped_step e) ss
-
--- places that hold no step stay as they are
-abbrev pub lowered : Steps → ℤ → Steps
-lowered s e = record { places = capped_steps e (steps_in s) ++ drop s.count s.places; count = s.count }
 
 abbrev pub no_step : Step
 no_step = record { upper = pos 0; price = pos 0 }

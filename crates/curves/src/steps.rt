@@ -1,8 +1,9 @@
-ghost use Rattle.std.specs.Prelude.{◌≡◌, ◌<◌, length, pos, MatchOption};
-ghost use Rattle.curves.specs.Curve.{steps_in, packed, lowered, rises, climbs, above, last_upper};
+ghost use Rattle.std.specs.Prelude.{◌≡◌, ◌<◌, ◌≤◌, length, pos, MatchOption};
+ghost use Rattle.curves.specs.Curve.{rises, climbs, above, last_upper, capped_steps};
 ghost use Rattle.curves.specs.Priced.{priceable, step_cost};
 
 use crate::curve::{cap_each, cost_at};
+use std::marker::Model;
 
 // A step of an offer: its power up to `upper` kW, at `price` centavos per MWh.
 #[derive(Clone, Copy)]
@@ -20,17 +21,33 @@ const MOST_OUTPUT: i64 = 2_000_000;
 // The largest price of some book either way, in centavos per MWh.
 const MOST_PRICE: i64 = 10_000_000;
 
-// The steps of a body: the first `count` of the places.
+// The steps of a body, in the first `count` of the places; the others hold no step.
 #[derive(Clone, Copy)]
 pub struct Steps {
     places: [Step; PLACES],
     count: usize,
 }
 
+impl Model for Steps {
+    ghost use Rattle.std.specs.Prelude.{List, length, take};
+    ghost use Rattle.curves.specs.declared.steps.Step.{Step};
+    ghost use Rattle.curves.specs.Places.{packed, Packed};
+
+    ghost Value = { List Step };
+
+    ghost view = { λ s. take s.count s.places };
+
+    ghost invariant = { λ s. Packed s.places s.count };
+
+    ghost inverse = { λ ss. record { places = packed ss; count = length ss } };
+
+    ghost inverse_ok = { λ s h i. record { places = h.rest i; count = h.counted i } };
+}
+
 impl Steps {
     // These steps, if there is room for them.
     pub fn of(steps: &[Step]) -> Option<Steps>
-        ensures { MatchOption result (PLACES < length steps.now) (λ s. (s ≡ packed steps.now) × (steps_in s ≡ steps.now)) }
+        ensures { MatchOption result (PLACES < length steps.now) (λ s. s ≡ steps.now) }
     {
         if steps.len() > PLACES {
             return None;
@@ -45,21 +62,22 @@ impl Steps {
 
     // The steps.
     pub fn used(&self) -> &[Step]
-        ensures { result.now ≡ steps_in self.now }
+        ensures { result.now ≡ self.now }
     {
-        &self.places[0..self.count.min(PLACES)]
+        &self.places[0..self.count]
     }
 
-    // How many steps there are said to be; more than the places are no steps that a book admits.
+    // How many steps there are.
     pub fn count(&self) -> usize
-        ensures { result ≡ self.now.count }
+        ensures value { result ≡ length self.now }
+        ensures few { result ≤ PLACES }
     {
         self.count
     }
 
     // Whether upper kW rise strictly, from at least 1.
     pub fn is_rising(&self) -> bool
-        ensures { result ≡ rises (pos 0) (steps_in self.now) }
+        ensures { result ≡ rises (pos 0) self.now }
     {
         let steps = self.used();
         steps.first().is_none_or(|s| 0 < s.upper) && steps.is_sorted_by(|a, b| a.upper < b.upper)
@@ -67,7 +85,7 @@ impl Steps {
 
     // Whether prices never fall, from at least the floor.
     pub fn is_climbing(&self, floor: i64) -> bool
-        ensures { result ≡ climbs floor (steps_in self.now) }
+        ensures { result ≡ climbs floor self.now }
     {
         let steps = self.used();
         steps.first().is_none_or(|s| floor <= s.price)
@@ -76,14 +94,14 @@ impl Steps {
 
     // Whether some price is above the ceiling.
     pub fn is_above(&self, ceiling: i64) -> bool
-        ensures { result ≡ above ceiling (steps_in self.now) }
+        ensures { result ≡ above ceiling self.now }
     {
         self.used().iter().any(|s| s.price > ceiling)
     }
 
     // The last upper kW, or 0.
     pub fn last_upper(&self) -> i64
-        ensures { result ≡ last_upper (pos 0) (steps_in self.now) }
+        ensures { result ≡ last_upper (pos 0) self.now }
     {
         self.used().last().map_or(0, |s| s.upper)
     }
@@ -102,19 +120,19 @@ impl Steps {
     fn is_priceable(&self) -> bool
         ensures { result ≡ priceable self.now }
     {
-        PLACES >= self.count
-            && self.is_rising()
-            && self.is_climbing(-MOST_PRICE)
-            && !self.is_above(MOST_PRICE)
+        prove!(self.count <= PLACES);
+        self.is_rising() && self.is_climbing(-MOST_PRICE) && !self.is_above(MOST_PRICE)
     }
 
     // Each price the lesser of itself and the ceiling.
     pub fn capped(&self, ceiling: i64) -> Steps
-        ensures { result ≡ lowered self.now ceiling }
+        ensures { result ≡ capped_steps ceiling self.now }
     {
-        let mut out = *self;
-        let count = self.count.min(PLACES);
-        cap_each(&mut out.places[0..count], ceiling);
-        out
+        let mut places = self.places;
+        cap_each(&mut places[0..self.count], ceiling);
+        Steps {
+            places,
+            count: self.count,
+        }
     }
 }
