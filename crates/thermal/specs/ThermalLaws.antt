@@ -1,5 +1,5 @@
 -- Thermal offers show the laws of every kind.
-use Rattle.std.specs.Prelude.{◌≡◌, ◌-◌, ◌≤◌, Bool, true, false, cond, not, ◌&&◌, ◌||◌, List, [], ◌∷◌, length, ℤ, pos, ◌≤ℤ◌, Decides, int_le, int_lt, nat_le, refl}
+use Rattle.std.specs.Prelude.{◌≡◌, ◌≤◌, Bool, true, false, cond, not, ◌&&◌, ◌||◌, List, length, ℤ, pos, ◌≤ℤ◌, Decides, int_le, int_lt, nat_le, refl}
 use Rattle.std.proofs.Common.{sym, ◌∙◌, ap, inl, inr, arith, leb-true, le-leb}
 use Rattle.std.specs.Int.Signed.{≤ℤ_refl}
 use Rattle.offers.specs.declared.ceilings.Ceilings.{Ceilings}
@@ -8,18 +8,17 @@ use Rattle.offers.specs.Laws.{Allowed, Filed, Idle, Lawful}
 use Rattle.offers.specs.Widest.{widest_terms}
 use Rattle.std.specs.Int.{int_min}
 use Rattle.std.proofs.lemmas.Int.{ints, clamps}
-use Rattle.std.proofs.lemmas.Bool.{and_parts, and_from, and_left, and_right, or_from, or_parts, cond-true, cond-false, cases_Bool}
+use Rattle.std.proofs.lemmas.Bool.{and_parts, and_from, and_left, and_right, or_from, or_parts, cond-true, cond-false, cases_Bool, not-true, not_from_false}
 use Rattle.std.proofs.lemmas.Bool.Decides.{not_from_Decides}
 use Rattle.curves.specs.declared.steps.Step.{Step}
-use Rattle.curves.specs.declared.steps.Steps.{Steps}
 use Rattle.thermal.specs.declared.Thermal.{Thermal}
-use Rattle.curves.specs.Curve.{upper_at, steps_in, lowered, above, climbs, cost_at, rises, last_upper}
+use Rattle.curves.specs.Curve.{capped_steps, above, climbs, cost_at, rises, last_upper}
 use Rattle.curves.specs.Priced.{step_cost}
 use Rattle.thermal.specs.Thermals.{Status, Economic, Emergency, Start, Admissible, good_status, good_economic, good_emergency, good_limits, good_start, good_steps, int_equal, admits, possible, capped_body, meaning, Rules}
-use Rattle.curves.proofs.Curves.{no_dearer, above_capped, above_lower, above_wider, lesser_own, rises_grows, rises_capped, last_capped, climbs_capped, climbs_wider, steps_lowered, lowered_own}
+use Rattle.curves.proofs.Curves.{no_dearer, above_capped, above_lower, above_wider, lesser_own, rises_grows, rises_capped, last_capped, climbs_capped, climbs_wider, capped_own}
 use Rattle.curves.proofs.Decisions.{int_le_from, int_le_to, int_lt_not, outside_0}
-use Rattle.curves.proofs.Priced.{not_true, not_false, cost_told}
-use Rattle.curves.proofs.Places.{rising_decided, climbing_decided, above_decided, last_at}
+use Rattle.curves.proofs.Priced.{cost_told}
+use Rattle.curves.proofs.Places.{rising_decided, climbing_decided, above_decided, last_is, curve_laws}
 use Rattle.offers.proofs.WidestAllowed.{widest_allowed}
 
 equal_to : (a b : ℤ) → int_equal a b ≡ true → a ≡ b
@@ -34,16 +33,16 @@ pub record Passed (b : Thermal) (t : Terms) : Type 0 where
   pub economic : Economic b
   pub emergency : Emergency b t.maximum
   pub start : Start b
-  pub some : 1 ≤ b.steps.count
-  pub few : b.steps.count ≤ 8
-  pub rising : rises (pos 0) (steps_in b.steps) ≡ true
-  pub last : last_upper (pos 0) (steps_in b.steps) ≡ b.economic_max
-  pub climbing : climbs t.floor (steps_in b.steps) ≡ true
-  pub below : above t.cap (steps_in b.steps) ≡ false
+  pub some : 1 ≤ length b.steps
+  pub few : length b.steps ≤ 8
+  pub rising : rises (pos 0) b.steps ≡ true
+  pub last : last_upper (pos 0) b.steps ≡ b.economic_max
+  pub climbing : climbs t.floor b.steps ≡ true
+  pub below : above t.cap b.steps ≡ false
 
 pub parts : (b : Thermal) (t : Terms) → admits b t ≡ true → Passed b t
 parts b t h =
-    let ss = steps_in b.steps in
+    let ss = b.steps in
     let p = and_parts (good_status b) (good_limits b t.maximum && (good_start b && good_steps b t.floor t.cap)) h in
     let q = and_parts (good_limits b t.maximum) (good_start b && good_steps b t.floor t.cap) p.1 in
     let r = and_parts (good_start b) (good_steps b t.floor t.cap) q.1 in
@@ -54,8 +53,8 @@ parts b t h =
     let e2 = and_parts (int_le (pos 0) b.emergency_min && int_le b.emergency_min b.economic_min) (int_le b.economic_max b.emergency_max) e3.0 in
     let e1 = and_parts (int_le (pos 0) b.emergency_min) (int_le b.emergency_min b.economic_min) e2.0 in
     let start = and_parts (int_le (pos 0) b.start_price) (int_le b.start_price (pos 1000000000)) r.0 in
-    let u = and_parts (nat_le 1 b.steps.count && nat_le b.steps.count 8) (rises (pos 0) ss && (int_equal (last_upper (pos 0) ss) b.economic_max && (climbs t.floor ss && not (above t.cap ss)))) r.1 in
-    let v = and_parts (nat_le 1 b.steps.count) (nat_le b.steps.count 8) u.0 in
+    let u = and_parts (nat_le 1 (length b.steps) && nat_le (length b.steps) 8) (rises (pos 0) ss && (int_equal (last_upper (pos 0) ss) b.economic_max && (climbs t.floor ss && not (above t.cap ss)))) r.1 in
+    let v = and_parts (nat_le 1 (length b.steps)) (nat_le (length b.steps) 8) u.0 in
     let w = and_parts (rises (pos 0) ss) (int_equal (last_upper (pos 0) ss) b.economic_max && (climbs t.floor ss && not (above t.cap ss))) u.1 in
     let x = and_parts (int_equal (last_upper (pos 0) ss) b.economic_max) (climbs t.floor ss && not (above t.cap ss)) w.1 in
     let y = and_parts (climbs t.floor ss) (not (above t.cap ss)) x.1 in
@@ -69,7 +68,7 @@ parts b t h =
       rising = w.0;
       last = equal_to _ _ x.0;
       climbing = y.0;
-      below = not_true _ y.1;
+      below = not-true _ y.1;
     }
 
 whole : (b : Thermal) (t : Terms) → Passed b t → admits b t ≡ true
@@ -81,11 +80,7 @@ whole b t h =
     (and_from _ _ (and_from _ _ (and_from _ _ (int_le_from _ _ e.low) (int_le_from _ _ e.minimums)) (int_le_from _ _ e.maximums)) (int_le_from _ _ e.registered)))
     (and_from _ _ (and_from _ _ (int_le_from _ _ h.start.low) (int_le_from _ _ h.start.high))
     (and_from _ _ (and_from _ _ (le-leb _ _ h.some) (le-leb _ _ h.few))
-    (and_from _ _ h.rising (and_from _ _ (equal_from _ _ h.last) (and_from _ _ h.climbing (not_false _ h.below)))))))
-
-last_is : (ss : List Step) → last_upper (pos 0) ss ≡ upper_at ss (length ss - 1)
-last_is [] = refl
-last_is (s ∷ ss) = last_at (pos 0) (s ∷ ss) (omega arith)
+    (and_from _ _ h.rising (and_from _ _ (equal_from _ _ h.last) (and_from _ _ h.climbing (not_from_false _ h.below)))))))
 
 none_above : (x : Bool) (P : Type 0) → Decides x P → (P → ⊥) → x ≡ false
 none_above true P d n = absurd (n (d.0 refl))
@@ -94,7 +89,7 @@ none_above false P d n = refl
 -- the tests decide the rules
 pub decided : (b : Thermal) (t : Terms) → Decides (admits b t) (Admissible b t)
 decided b t =
-    let ss = steps_in b.steps in (
+    let ss = b.steps in (
       (λ h. (let a = parts b t h in record {
         status = a.status;
         economic = a.economic;
@@ -127,7 +122,7 @@ widest : (b : Thermal) (t : Terms) → Allowed t → admits b t ≡ true → pos
 widest b t l h =
     let a = parts b t h in
     let e = a.emergency in
-    let ss = steps_in b.steps in
+    let ss = b.steps in
     whole b widest_terms (record {
       status = a.status;
       economic = a.economic;
@@ -148,7 +143,7 @@ cost_is b q h low high =
     let t = and_from (possible b) (int_le (pos 0) q && int_le q b.economic_max) h (and_from _ _ (int_le_from _ _ low) (int_le_from _ _ high)) in
     cost_told b.steps q a.few a.rising a.climbing a.below low (omega (arith, ints)) ∙ sym (cond-true _ _ _ t)
 
-abbrev with_prices : Thermal → ℤ → Steps → Thermal
+abbrev with_prices : Thermal → ℤ → List Step → Thermal
 with_prices b p s = record {
   status = b.status;
   emergency_min = b.emergency_min;
@@ -171,19 +166,19 @@ module _ (b : Thermal) (t : Terms) (c : Ceilings) (h : Filed meaning b t c) wher
       let a = parts b t h.admitted in
       let start = a.start in
       let k = h.bring in
-      let ss = steps_in b.steps in
-      let w = steps_lowered b.steps c.energy in
+      let ss = b.steps in
+      let many = curve_laws.capped_count c.energy ss in
       whole (capped_body b c) t (record {
         status = record { low = a.status.low; high = a.status.high };
         economic = record { low = a.economic.low; ordered = a.economic.ordered };
         emergency = record { low = a.emergency.low; minimums = a.emergency.minimums; maximums = a.emergency.maximums; registered = a.emergency.registered };
         start = record { low = omega (arith, ints, clamps); high = omega (arith, ints, clamps) };
-        some = a.some;
-        few = a.few;
-        rising = ap (rises (pos 0)) w ∙ rises_capped (pos 0) c.energy ss ∙ a.rising;
-        last = ap (last_upper (pos 0)) w ∙ last_capped (pos 0) c.energy ss ∙ a.last;
-        climbing = ap (climbs t.floor) w ∙ climbs_capped t.floor t.floor c.energy ss a.climbing (≤ℤ_refl t.floor) k.energy_low;
-        below = ap (above t.cap) w ∙ above_lower c.energy t.cap ss a.below;
+        some = rw many a.some;
+        few = rw many a.few;
+        rising = rises_capped (pos 0) c.energy ss ∙ a.rising;
+        last = last_capped (pos 0) c.energy ss ∙ a.last;
+        climbing = climbs_capped t.floor t.floor c.energy ss a.climbing (≤ℤ_refl t.floor) k.energy_low;
+        below = above_lower c.energy t.cap ss a.below;
       })
 
   still : possible (capped_body b c) ≡ true
@@ -195,15 +190,15 @@ module _ (b : Thermal) (t : Terms) (c : Ceilings) (h : Filed meaning b t c) wher
   none : meaning.exceeds (capped_body b c) c ≡ false
   none =
       let p : int_min b.start_price c.start ≤ℤ c.start = omega (arith, ints, clamps) in
-      and_right _ _ (or_from _ _ (ap (above c.energy) (steps_lowered b.steps c.energy) ∙ above_capped c.energy (steps_in b.steps)) (int_lt_not _ _ p))
+      and_right _ _ (or_from _ _ (above_capped c.energy b.steps) (int_lt_not _ _ p))
 
   less : (q : ℤ) → meaning.cost (capped_body b c) q ≤ℤ meaning.cost b q
   less q =
       let a = parts b t h.admitted in
-      let ss = steps_in b.steps in
+      let ss = b.steps in
       let r : Bool = int_le (pos 0) q && int_le q b.economic_max in
-      let x : cost_at q (steps_in (lowered b.steps c.energy)) ≤ℤ cost_at q ss = rw (steps_lowered b.steps c.energy) (no_dearer q (pos 0) c.energy ss (rises_grows (pos 0) ss a.rising)) in
-      rw (still, can) (elim r as (λ v. cond v (cost_at q (steps_in (lowered b.steps c.energy))) (pos 0) ≤ℤ cond v (cost_at q ss) (pos 0)) [ true ↦ x | false ↦ ≤ℤ_refl (pos 0) ])
+      let x : cost_at q (capped_steps c.energy ss) ≤ℤ cost_at q ss = no_dearer q (pos 0) c.energy ss (rises_grows (pos 0) ss a.rising) in
+      rw (still, can) (elim r as (λ v. cond v (cost_at q (capped_steps c.energy ss)) (pos 0) ≤ℤ cond v (cost_at q ss) (pos 0)) [ true ↦ x | false ↦ ≤ℤ_refl (pos 0) ])
 
   start_less : meaning.start (capped_body b c) ≤ℤ meaning.start b
   start_less = rw (still, can) (omega (arith, ints, clamps))
@@ -212,12 +207,12 @@ module _ (b : Thermal) (t : Terms) (c : Ceilings) (h : Filed meaning b t c) wher
 own : (b : Thermal) (c : Ceilings) → meaning.exceeds b c ≡ false → meaning.capped b c ≡ b
 own b c x = elim (cases_Bool (possible b)) [
   | inl can ↦ (
-      let e = above c.energy (steps_in b.steps) in
+      let e = above c.energy b.steps in
       let s = int_lt c.start b.start_price in
       let y = or_parts e s (sym (ap (λ v. v && (e || s)) can) ∙ x) in
-      let u : lowered b.steps c.energy ≡ b.steps = lowered_own b.steps c.energy y.0 in
+      let u : capped_steps c.energy b.steps ≡ b.steps = capped_own c.energy b.steps y.0 in
       let v : int_min b.start_price c.start ≡ b.start_price = lesser_own b.start_price c.start y.1 in
-      cond-true _ _ _ can ∙ ap (λ p. with_prices b p (lowered b.steps c.energy)) v ∙ ap (λ l. with_prices b b.start_price l) u)
+      cond-true _ _ _ can ∙ ap (λ p. with_prices b p (capped_steps c.energy b.steps)) v ∙ ap (λ l. with_prices b b.start_price l) u)
   | inr not_so ↦ cond-false _ _ _ not_so
 ]
 
