@@ -28,7 +28,7 @@ fn usual() -> Result<Thermal, Fail> {
 }
 
 // Whether a body is admitted to 1,000 kW and prices from -100 to 100.
-fn admitted(body: Thermal) -> bool {
+fn admitted(body: &Thermal) -> bool {
     body.admissible(Terms {
         maximum: 1_000,
         floor: -100,
@@ -40,13 +40,13 @@ fn admitted(body: Thermal) -> bool {
 fn status(rt: HostRuntime) -> Result<(), Fail> {
     let mut body = usual()?;
     body.status = -1;
-    assert!(rt; !admitted(body));
+    assert!(rt; !admitted(&body));
     body.status = 0;
-    assert!(rt; admitted(body));
+    assert!(rt; admitted(&body));
     body.status = 2;
-    assert!(rt; admitted(body));
+    assert!(rt; admitted(&body));
     body.status = 3;
-    assert!(rt; !admitted(body));
+    assert!(rt; !admitted(&body));
     Ok(())
 }
 
@@ -54,22 +54,22 @@ fn status(rt: HostRuntime) -> Result<(), Fail> {
 fn lower_limits(rt: HostRuntime) -> Result<(), Fail> {
     let mut body = usual()?;
     body.emergency_min = -1;
-    assert!(rt; !admitted(body));
+    assert!(rt; !admitted(&body));
     body.emergency_min = 0;
-    assert!(rt; admitted(body));
+    assert!(rt; admitted(&body));
     body.emergency_min = 20;
-    assert!(rt; admitted(body));
+    assert!(rt; admitted(&body));
     body.emergency_min = 21;
-    assert!(rt; !admitted(body));
+    assert!(rt; !admitted(&body));
     body.emergency_min = 0;
     body.economic_min = -1;
-    assert!(rt; !admitted(body));
+    assert!(rt; !admitted(&body));
     body.economic_min = 0;
-    assert!(rt; admitted(body));
+    assert!(rt; admitted(&body));
     body.economic_min = 250;
-    assert!(rt; admitted(body));
+    assert!(rt; admitted(&body));
     body.economic_min = 251;
-    assert!(rt; !admitted(body));
+    assert!(rt; !admitted(&body));
     Ok(())
 }
 
@@ -77,18 +77,18 @@ fn lower_limits(rt: HostRuntime) -> Result<(), Fail> {
 fn upper_limits(rt: HostRuntime) -> Result<(), Fail> {
     let mut body = usual()?;
     body.emergency_max = 249;
-    assert!(rt; !admitted(body));
+    assert!(rt; !admitted(&body));
     body.emergency_max = 250;
-    assert!(rt; admitted(body));
+    assert!(rt; admitted(&body));
     body.emergency_max = 1_000;
-    assert!(rt; admitted(body));
+    assert!(rt; admitted(&body));
     body.emergency_max = 1_001;
-    assert!(rt; !admitted(body));
+    assert!(rt; !admitted(&body));
     body.emergency_max = 300;
     body.economic_max = 249;
-    assert!(rt; !admitted(body));
+    assert!(rt; !admitted(&body));
     body.economic_max = 251;
-    assert!(rt; !admitted(body));
+    assert!(rt; !admitted(&body));
     Ok(())
 }
 
@@ -96,21 +96,21 @@ fn upper_limits(rt: HostRuntime) -> Result<(), Fail> {
 fn start_prices(rt: HostRuntime) -> Result<(), Fail> {
     let mut body = usual()?;
     body.start_price = -1;
-    assert!(rt; !admitted(body));
+    assert!(rt; !admitted(&body));
     body.start_price = 0;
-    assert!(rt; admitted(body));
+    assert!(rt; admitted(&body));
     body.start_price = 1_000_000_000;
-    assert!(rt; admitted(body));
+    assert!(rt; admitted(&body));
     body.start_price = 1_000_000_001;
-    assert!(rt; !admitted(body));
+    assert!(rt; !admitted(&body));
     Ok(())
 }
 
 #[test]
 fn step_counts(rt: HostRuntime) -> Result<(), Fail> {
     let s = step(1, 0);
-    assert!(rt; !admitted(with_steps(&[])?));
-    assert!(rt; admitted(with_steps(&[step(250, 0)])?));
+    assert!(rt; !admitted(&with_steps(&[])?));
+    assert!(rt; admitted(&with_steps(&[step(250, 0)])?));
     let eight = with_steps(&[
         s,
         step(2, 0),
@@ -121,24 +121,24 @@ fn step_counts(rt: HostRuntime) -> Result<(), Fail> {
         step(7, 0),
         step(250, 0),
     ])?;
-    assert!(rt; admitted(eight));
+    assert!(rt; admitted(&eight));
     assert!(rt; Steps::of(&[s, s, s, s, s, s, s, s, s]).is_none());
     Ok(())
 }
 
 #[test]
 fn step_rules(rt: HostRuntime) -> Result<(), Fail> {
-    assert!(rt; admitted(with_steps(&[step(1, 0), step(250, 0)])?));
-    assert!(rt; !admitted(with_steps(&[step(0, 0), step(250, 0)])?));
-    assert!(rt; !admitted(with_steps(&[step(250, 0), step(250, 0)])?));
-    assert!(rt; !admitted(with_steps(&[step(250, 0), step(249, 0)])?));
-    assert!(rt; !admitted(with_steps(&[step(100, 0), step(249, 0)])?));
-    assert!(rt; !admitted(with_steps(&[step(100, 0), step(251, 0)])?));
-    assert!(rt; admitted(with_steps(&[step(100, 7), step(250, 7)])?));
-    assert!(rt; !admitted(with_steps(&[step(100, 7), step(250, 6)])?));
-    assert!(rt; admitted(with_steps(&[step(100, -100), step(250, 100)])?));
-    assert!(rt; !admitted(with_steps(&[step(100, -101), step(250, 100)])?));
-    assert!(rt; !admitted(with_steps(&[step(100, -100), step(250, 101)])?));
+    assert!(rt; admitted(&with_steps(&[step(1, 0), step(250, 0)])?));
+    assert!(rt; !admitted(&with_steps(&[step(0, 0), step(250, 0)])?));
+    assert!(rt; !admitted(&with_steps(&[step(250, 0), step(250, 0)])?));
+    assert!(rt; !admitted(&with_steps(&[step(250, 0), step(249, 0)])?));
+    assert!(rt; !admitted(&with_steps(&[step(100, 0), step(249, 0)])?));
+    assert!(rt; !admitted(&with_steps(&[step(100, 0), step(251, 0)])?));
+    assert!(rt; admitted(&with_steps(&[step(100, 7), step(250, 7)])?));
+    assert!(rt; !admitted(&with_steps(&[step(100, 7), step(250, 6)])?));
+    assert!(rt; admitted(&with_steps(&[step(100, -100), step(250, 100)])?));
+    assert!(rt; !admitted(&with_steps(&[step(100, -101), step(250, 100)])?));
+    assert!(rt; !admitted(&with_steps(&[step(100, -100), step(250, 101)])?));
     Ok(())
 }
 
@@ -196,7 +196,7 @@ fn no_book_admits(rt: HostRuntime) -> Result<(), Fail> {
     Ok(())
 }
 
-fn is_idle(body: Thermal) -> bool {
+fn is_idle(body: &Thermal) -> bool {
     let ceilings = held_to(-10_000_000, 0);
     body.top() == 0 && body.cost(100) == 0 && body.start_price() == 0 && !body.exceeds(ceilings)
 }
@@ -205,21 +205,21 @@ fn is_idle(body: Thermal) -> bool {
 fn limits_of_any_book(rt: HostRuntime) -> Result<(), Fail> {
     let mut body = usual()?;
     body.emergency_max = 2_000_000;
-    assert!(rt; !is_idle(body));
+    assert!(rt; !is_idle(&body));
     body.emergency_max = 2_000_001;
-    assert!(rt; is_idle(body));
+    assert!(rt; is_idle(&body));
     body.emergency_max = 300;
     body.start_price = 1_000_000_000;
-    assert!(rt; !is_idle(body));
+    assert!(rt; !is_idle(&body));
     body.start_price = 1_000_000_001;
-    assert!(rt; is_idle(body));
+    assert!(rt; is_idle(&body));
     body.start_price = -1;
-    assert!(rt; is_idle(body));
-    assert!(rt; !is_idle(with_steps(&[step(250, 10_000_000)])?));
-    assert!(rt; is_idle(with_steps(&[step(250, 10_000_001)])?));
-    assert!(rt; !is_idle(with_steps(&[step(250, -10_000_000)])?));
-    assert!(rt; is_idle(with_steps(&[step(250, -10_000_001)])?));
-    assert!(rt; is_idle(with_steps(&[])?));
+    assert!(rt; is_idle(&body));
+    assert!(rt; !is_idle(&with_steps(&[step(250, 10_000_000)])?));
+    assert!(rt; is_idle(&with_steps(&[step(250, 10_000_001)])?));
+    assert!(rt; !is_idle(&with_steps(&[step(250, -10_000_000)])?));
+    assert!(rt; is_idle(&with_steps(&[step(250, -10_000_001)])?));
+    assert!(rt; is_idle(&with_steps(&[])?));
     Ok(())
 }
 
@@ -235,7 +235,7 @@ fn extreme_costs(rt: HostRuntime) -> Result<(), Fail> {
     let low = body.capped(held_to(-10_000_000, 0));
     assert_eq!(rt; low.cost(2_000_000), -20_000_000_000_000);
     body.economic_max = i64::MAX;
-    assert!(rt; is_idle(body));
+    assert!(rt; is_idle(&body));
     Ok(())
 }
 
@@ -255,10 +255,10 @@ fn with_eighth(upper: i64, price: i64) -> Result<Thermal, Fail> {
 
 #[test]
 fn eighth_step(rt: HostRuntime) -> Result<(), Fail> {
-    assert!(rt; admitted(with_eighth(250, 100)?));
-    assert!(rt; !admitted(with_eighth(250, 101)?));
-    assert!(rt; !admitted(with_eighth(250, 6)?));
-    assert!(rt; !admitted(with_eighth(70, 100)?));
+    assert!(rt; admitted(&with_eighth(250, 100)?));
+    assert!(rt; !admitted(&with_eighth(250, 101)?));
+    assert!(rt; !admitted(&with_eighth(250, 6)?));
+    assert!(rt; !admitted(&with_eighth(70, 100)?));
     let body = with_eighth(250, 100)?;
     assert!(rt; body.exceeds(held_to(99, 5)));
     assert!(rt; !body.exceeds(held_to(100, 5)));
