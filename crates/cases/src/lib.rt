@@ -11,11 +11,13 @@ pub fn worked_cases()
 {}
 
 // What the cost of an output comes to, for every list of steps that rise.
+#[tactic(auto, using(curves::proofs::Costs::cost_laws))]
 pub fn cost_laws()
     ensures { CostLaws }
 {}
 
 // What the tests and the capping of steps say of each step.
+#[tactic(auto, using(curves::proofs::Places::curve_laws))]
 pub fn curve_laws()
     ensures { CurveLaws }
 {}

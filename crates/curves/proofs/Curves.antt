@@ -1,14 +1,14 @@
 -- Costs and capped prices of a curve, step by step.
-use Rattle.std.proofs.Common.{◌≡◌, ℕ, zero, suc, ◌+◌, ◌-◌, ◌*◌, ◌<◌, ◌≤◌, min, true, false, ◌&&◌, List, [], ◌∷◌, ◌++◌, map, length, get_or, take, drop, set, replicate, ℤ, pos, ◌+ℤ◌, ◌-ℤ◌, neg_ℤ, ◌≤ℤ◌, sym, refl, ap, ◌∙◌, inl, inr, add-one, arith, take-append-drop, take_all, w64, SFits}
+use Rattle.std.proofs.Common.{◌≡◌, ℕ, ◌+◌, ◌*◌, ◌<◌, ◌≤◌, true, false, ◌&&◌, List, [], ◌∷◌, length, get_or, drop, ℤ, pos, ◌+ℤ◌, ◌-ℤ◌, neg_ℤ, ◌≤ℤ◌, sym, refl, ap, ◌∙◌, arith, w64, SFits}
 use lib.IntN.{+ℤ_idl, +ℤ_idr, +ℤ_assoc}
 use lib.Signed.{le_z, lt_z, ≤ℤ_refl}
 use Rattle.std.specs.Int.{int_min}
-use Rattle.std.proofs.lemmas.List.{at_drop_more, at_drop_all, drop_all, drop-replicate}
+use Rattle.std.proofs.lemmas.List.{at_drop_more, at_drop_all}
 use Rattle.std.proofs.lemmas.Int.{ints, clamps}
-use Rattle.std.proofs.lemmas.Bool.{and_parts, and_from, or_parts, or_from, cond-false, cases_lt}
+use Rattle.std.proofs.lemmas.Bool.{and_parts, and_from, or_parts, or_from, cond-false}
 use Rattle.curves.specs.declared.steps.Step.{Step}
-use Rattle.curves.specs.declared.steps.Steps.{Steps}
-use Rattle.curves.specs.Curve.{no_step, steps_in, packed, part_cost, cost_above, cost_at, capped_step, capped_steps, lowered, rises, climbs, above, last_upper}
+use Rattle.curves.specs.declared.steps.TheConstants.{PLACES, MOST_OUTPUT, MOST_PRICE}
+use Rattle.curves.specs.Curve.{no_step, part_cost, cost_above, cost_at, capped_step, capped_steps, rises, climbs, above, last_upper}
 use Rattle.curves.specs.Fits.{PartFits, CostFits}
 use Rattle.curves.proofs.Decisions.{int_le_from, int_le_to, int_lt_to, int_lt_not, int_lt_not_to}
 use Rattle.curves.proofs.Products.{times_mono, times_high, times_low}
@@ -92,32 +92,24 @@ above_capped e (s ∷ ss) =
 pub lesser_own : (p e : ℤ) → lt_z e p ≡ false → int_min p e ≡ p
 lesser_own p e h = cond-false _ _ _ h
 
-own : (e : ℤ) (ss : List Step) → above e ss ≡ false → capped_steps e ss ≡ ss
-own e [] h = refl
-own e (s ∷ ss) h =
+-- prices that are not above the ceiling are their own capped prices
+pub capped_own : (e : ℤ) (ss : List Step) → above e ss ≡ false → capped_steps e ss ≡ ss
+capped_own e [] h = refl
+capped_own e (s ∷ ss) h =
     let p = or_parts (lt_z e s.price) (above e ss) h in
     let a : capped_step e s ≡ s = ap (λ x. record { upper = s.upper; price = x }) (lesser_own s.price e p.0) in
-    let b = own e ss p.1 in
+    let b = capped_own e ss p.1 in
     cc
 
-taken : {X : Type 0} (f : X → X) (n : ℕ) (xs : List X) → take n (map f (take n xs) ++ drop n xs) ≡ map f (take n xs)
-taken f zero xs = refl
-taken f (suc n) [] = refl
-taken f (suc n) (x ∷ xs) = ap (λ l. f x ∷ l) (taken f n xs)
+-- the most that a step adds to a cost, either way
+abbrev pub most_part : ℕ
+most_part = 20000000000000
 
-pub steps_lowered : (s : Steps) (e : ℤ) → steps_in (lowered s e) ≡ capped_steps e (steps_in s)
-steps_lowered s e = taken (capped_step e) s.count s.places
-
-pub lowered_own : (s : Steps) (e : ℤ) → above e (steps_in s) ≡ false → lowered s e ≡ s
-lowered_own s e h =
-    let p : (capped_steps e (steps_in s) ++ drop s.count s.places) ≡ s.places = rw (own e (steps_in s) h) (take-append-drop s.count s.places) in
-    ap (λ l. record { places = l; count = s.count }) p
-
-part_bounds : (s : Step) (lower q : ℤ) → PartFits s lower q → (part_cost q lower s ≤ℤ pos 20000000000000) × (neg_ℤ (pos 20000000000000) ≤ℤ part_cost q lower s)
+part_bounds : (s : Step) (lower q : ℤ) → PartFits s lower q → (part_cost q lower s ≤ℤ pos most_part) × (neg_ℤ (pos most_part) ≤ℤ part_cost q lower s)
 part_bounds s lower q h =
     let w = int_min q s.upper -ℤ int_min q lower in
     let a : pos 0 ≤ℤ w = part_grows q lower s.upper h.climbs in
-    let b : w ≤ℤ pos 2000000 = omega (arith, ints, clamps) in
+    let b : w ≤ℤ MOST_OUTPUT = omega (arith, ints, clamps) in
     (times_high w s.price 2000000 10000000 a b h.price_high, times_low w s.price 2000000 10000000 a b h.price_low)
 
 pub part_difference : (s : Step) (lower q : ℤ) → PartFits s lower q → SFits w64 (int_min q s.upper -ℤ int_min q lower)
@@ -129,14 +121,14 @@ part_product s lower q h = let b = part_bounds s lower q h in omega (arith, ints
 -- the sum of the parts of the first i steps, which end at `lower` kW
 pub record Running (q : ℤ) (all : List Step) (lower sum : ℤ) (i : ℕ) : Type 0 where
   pub from_0 : pos 0 ≤ℤ q
-  pub to_most : q ≤ℤ pos 2000000
+  pub to_most : q ≤ℤ MOST_OUTPUT
   pub value : cost_at q all ≡ (sum +ℤ cost_above q lower (drop i all))
   pub rising : rises lower (drop i all) ≡ true
-  pub climbing : climbs (neg_ℤ (pos 10000000)) (drop i all) ≡ true
-  pub below : above (pos 10000000) (drop i all) ≡ false
+  pub climbing : climbs (neg_ℤ MOST_PRICE) (drop i all) ≡ true
+  pub below : above MOST_PRICE (drop i all) ≡ false
   pub lower_low : pos 0 ≤ℤ lower
-  pub high : sum ≤ℤ pos (i * 20000000000000)
-  pub low : neg_ℤ (pos (i * 20000000000000)) ≤ℤ sum
+  pub high : sum ≤ℤ pos (i * most_part)
+  pub low : neg_ℤ (pos (i * most_part)) ≤ℤ sum
 
 pub running_none : (q : ℤ) (all : List Step) → CostFits all q → Running q all (pos 0) (pos 0) 0
 running_none q all h = record {
@@ -162,11 +154,11 @@ module _ (q : ℤ) (all : List Step) (lower sum : ℤ) (i : ℕ) (h : Running q 
   rising_here : (lt_z lower (get_or all i no_step).upper ≡ true) × (rises (get_or all i no_step).upper (drop (i + 1) all) ≡ true)
   rising_here = and_parts _ _ (sym (at_drop_more (rises lower) all i no_step t) ∙ h.rising)
 
-  climbing_here : (le_z (neg_ℤ (pos 10000000)) (get_or all i no_step).price ≡ true) × (climbs (get_or all i no_step).price (drop (i + 1) all) ≡ true)
-  climbing_here = and_parts _ _ (sym (at_drop_more (climbs (neg_ℤ (pos 10000000))) all i no_step t) ∙ h.climbing)
+  climbing_here : (le_z (neg_ℤ MOST_PRICE) (get_or all i no_step).price ≡ true) × (climbs (get_or all i no_step).price (drop (i + 1) all) ≡ true)
+  climbing_here = and_parts _ _ (sym (at_drop_more (climbs (neg_ℤ MOST_PRICE)) all i no_step t) ∙ h.climbing)
 
-  below_here : (lt_z (pos 10000000) (get_or all i no_step).price ≡ false) × (above (pos 10000000) (drop (i + 1) all) ≡ false)
-  below_here = or_parts _ _ (sym (at_drop_more (above (pos 10000000)) all i no_step t) ∙ h.below)
+  below_here : (lt_z MOST_PRICE (get_or all i no_step).price ≡ false) × (above MOST_PRICE (drop (i + 1) all) ≡ false)
+  below_here = or_parts _ _ (sym (at_drop_more (above MOST_PRICE) all i no_step t) ∙ h.below)
 
   pub running_fits : PartFits (get_or all i no_step) lower q
   running_fits =
@@ -180,7 +172,7 @@ module _ (q : ℤ) (all : List Step) (lower sum : ℤ) (i : ℕ) (h : Running q 
         price_high = int_lt_not_to _ _ below_here.0;
       }
 
-  pub running_sum : length all ≤ 16 → SFits w64 (sum +ℤ part_cost q lower (get_or all i no_step))
+  pub running_sum : length all ≤ PLACES → SFits w64 (sum +ℤ part_cost q lower (get_or all i no_step))
   running_sum few =
       let b = part_bounds (get_or all i no_step) lower q running_fits in
       let x = h.high in
@@ -197,7 +189,7 @@ module _ (q : ℤ) (all : List Step) (lower sum : ℤ) (i : ℕ) (h : Running q 
         to_most = h.to_most;
         value = h.value ∙ ap (λ x. sum +ℤ x) (at_drop_more (cost_above q lower) all i no_step t) ∙ sym (+ℤ_assoc sum (part_cost q lower s) (cost_above q s.upper (drop (i + 1) all)));
         rising = rising_here.1;
-        climbing = climbs_wider s.price (neg_ℤ (pos 10000000)) (drop (i + 1) all) climbing_here.1 f.price_low;
+        climbing = climbs_wider s.price (neg_ℤ MOST_PRICE) (drop (i + 1) all) climbing_here.1 f.price_low;
         below = below_here.1;
         lower_low = omega (arith, ints);
         high = omega (arith, ints);
@@ -206,28 +198,3 @@ module _ (q : ℤ) (all : List Step) (lower sum : ℤ) (i : ℕ) (h : Running q 
 
 pub running_all : (q : ℤ) (all : List Step) (lower sum : ℤ) (i : ℕ) → Running q all lower sum i → length all ≤ i → cost_at q all ≡ sum
 running_all q all lower sum i h t = h.value ∙ ap (λ x. sum +ℤ x) (at_drop_all (cost_above q lower) all i t) ∙ +ℤ_idr sum
-
--- one more place of a list changed in place
-pub map_more : {X : Type 0} (f : X → X) (xs : List X) (i : ℕ) (d : X) → i < length xs →
-    set (map f (take i xs) ++ drop i xs) i (f (get_or xs i d)) ≡ map f (take (i + 1) xs) ++ drop (i + 1) xs
-map_more f [] i d h = absurd (omega arith)
-map_more f (x ∷ xs) zero d h = refl
-map_more f (x ∷ xs) (suc i) d h = rw add-one (ap (λ l. f x ∷ l) (rw add-one at (map_more f xs i d (omega arith))))
-
-pub map_at : {X : Type 0} (f : X → X) (xs : List X) (i : ℕ) (d : X) → i < length xs → get_or (map f (take i xs) ++ drop i xs) i d ≡ get_or xs i d
-map_at f [] i d h = absurd (omega arith)
-map_at f (x ∷ xs) zero d h = refl
-map_at f (x ∷ xs) (suc i) d h = map_at f xs i d (omega arith)
-
--- the used places are the same by the count and by the count held to the places that there are
-pub take_held : (ss : List Step) (n m : ℕ) → length ss ≡ 8 → m ≡ min n 8 → take m ss ≡ take n ss
-take_held ss n m e h = elim (cases_lt 8 n) [ inl p ↦ (take_all m ss (omega arith) ∙ sym (take_all n ss (omega arith))) | inr p ↦ (let q : m ≡ n = omega arith in ap (λ k. take k ss) q) ]
-
-pub drop_held : (ss : List Step) (n m : ℕ) → length ss ≡ 8 → m ≡ min n 8 → drop m ss ≡ drop n ss
-drop_held ss n m e h = elim (cases_lt 8 n) [ inl p ↦ (drop_all m ss (omega arith) ∙ sym (drop_all n ss (omega arith))) | inr p ↦ (let q : m ≡ n = omega arith in ap (λ k. drop k ss) q) ]
-
--- steps copied over the first of eight empty places
-pub packed_is : (ss front : List Step) (n : ℕ) → front ≡ ss → n ≡ length ss → record { places = front ++ drop n (replicate 8 no_step); count = length ss } ≡ packed ss
-packed_is ss front n copied all =
-    let rest : drop n (replicate 8 no_step) ≡ replicate (8 - length ss) no_step = drop-replicate n 8 no_step ∙ ap (λ k. replicate (8 - k) no_step) all in
-    rw (copied, rest) refl

@@ -1,5 +1,5 @@
 -- Tests on signed numbers, and numbers that go to their bits and back.
-use Rattle.std.proofs.Common.{◌≡◌, Bool, true, false, cond, ◌&&◌, ◌⊎◌, ℤ, pos, ◌≤ℤ◌, ◌<ℤ◌, sym, refl, subst, inl, inr, arith, w64, SFits, to_z, of_z}
+use Rattle.std.proofs.Common.{◌≡◌, Bool, true, false, cond, ◌&&◌, ◌⊎◌, ℤ, pos, ◌≤ℤ◌, ◌<ℤ◌, refl, subst, inl, inr, arith, w64, SFits, to_z, of_z}
 use lib.Signed.{le_z, lt_z}
 use Rattle.std.proofs.lemmas.Int.{ints, to_z-of_z}
 use Rattle.std.proofs.lemmas.Bool.{and_left, and_right, cond-false}
@@ -27,9 +27,6 @@ int_lt_not_to a b h = omega (arith, ints)
 
 pub at_fits : (P : ℤ → Type 0) (z : ℤ) → SFits w64 z → P (to_z w64 (of_z w64 z)) → P z
 at_fits P z f h = subst P (to_z-of_z w64 z f) h
-
-pub from_fits : (P : ℤ → Type 0) (z : ℤ) → SFits w64 z → P z → P (to_z w64 (of_z w64 z))
-from_fits P z f h = subst P (sym (to_z-of_z w64 z f)) h
 
 -- a cost is 0 outside 0 to top
 pub outside_0 : (can : Bool) (q most x : ℤ) → (q <ℤ pos 0) ⊎ (cond can most (pos 0) <ℤ q) → cond (can && (le_z (pos 0) q && le_z q most)) x (pos 0) ≡ pos 0

@@ -1,10 +1,12 @@
 -- What the tests of a curve say of each of its steps.
-use Rattle.std.proofs.Common.{◌≡◌, ℕ, zero, suc, ◌-◌, ◌<◌, ◌≤◌, Bool, true, false, ◌&&◌, ◌||◌, eqb, ltb, List, [], ◌∷◌, length, get_or, ℤ, pos, ◌≤ℤ◌, ◌<ℤ◌, Decides, sym, refl, ap, ◌∙◌, inl, inr, arith, eq-eqb, ne_eqb}
+use Rattle.std.proofs.Common.{◌≡◌, ℕ, zero, suc, ◌-◌, ◌<◌, Bool, true, false, ◌&&◌, List, [], ◌∷◌, length, get_or, ℤ, pos, ◌≤ℤ◌, ◌<ℤ◌, Decides, sym, refl, ap, add-one, ◌∙◌, inl, inr, arith}
 use lib.Signed.{le_z, lt_z}
-use Rattle.std.proofs.lemmas.Bool.{and_parts, and_from, or_left, or_right, lt-ltb, le-ltb, cases_lt, cases_Bool}
+use Rattle.std.proofs.lemmas.Bool.{and_parts, and_from, cases_Bool, false≢true}
+use Rattle.std.proofs.lemmas.Bool.Decides.{Decides-by_or}
+use Rattle.std.specs.List.{IsAllAdjacentAnswer}
 use Rattle.curves.specs.declared.steps.Step.{Step}
 use Rattle.curves.specs.CurveLaws.{CurveLaws}
-use Rattle.std.proofs.lemmas.List.{length-map, get_or-map}
+use Rattle.std.proofs.lemmas.List.{length-map, get_or-map, get_or_default}
 use Rattle.std.proofs.lemmas.Int.{ints}
 use Rattle.curves.specs.Curve.{no_step, capped_step, upper_at, price_at, lower_at, price_before, Rising, Climbing, Above, rises, climbs, above, last_upper}
 use Rattle.curves.proofs.Decisions.{int_le_from, int_le_to, int_lt_from, int_lt_to}
@@ -34,12 +36,24 @@ module _ (get : Step → ℤ) (test : ℤ → ℤ → Bool) where
       shift zero l = h (suc zero) (omega arith)
       shift (suc k) l = h (suc (suc k)) (omega arith)
 
+  -- the test is made of the first step, and of each step and the next
+  pub goes_answered : (low : ℤ) (ss : List Step) (r : Bool) → (0 < length ss → test low (get (get_or ss 0 no_step)) ≡ true) → IsAllAdjacentAnswer (λ a b t. t ≡ test (get a) (get b)) ss r → r ≡ goes low ss
+  goes_answered low ss true first rest = sym (goes_from low ss (λ k l. each k l))
+    where
+      each : (k : ℕ) → k < length ss → test (before low ss k) (get (get_or ss k no_step)) ≡ true
+      each zero l = first l
+      each (suc k) l = sym (rw add-one at (rest k no_step (omega arith)))
+  goes_answered low ss false first rest = elim (cases_Bool (goes low ss)) [
+    | inl h ↦ absurd (false≢true (rest.2 no_step ∙ rw add-one (goes_at low ss h (suc rest.0) (omega (arith, rest.1)))))
+    | inr h ↦ sym h
+  ]
+
 -- rising and climbing go from step to step
-rises_goes : (low : ℤ) (ss : List Step) → rises low ss ≡ goes (λ s. s.upper) lt_z low ss
+pub rises_goes : (low : ℤ) (ss : List Step) → rises low ss ≡ goes (λ s. s.upper) lt_z low ss
 rises_goes low [] = refl
 rises_goes low (s ∷ ss) = ap (λ t. lt_z low s.upper && t) (rises_goes s.upper ss)
 
-climbs_goes : (low : ℤ) (ss : List Step) → climbs low ss ≡ goes (λ s. s.price) le_z low ss
+pub climbs_goes : (low : ℤ) (ss : List Step) → climbs low ss ≡ goes (λ s. s.price) le_z low ss
 climbs_goes low [] = refl
 climbs_goes low (s ∷ ss) = ap (λ t. le_z low s.price && t) (climbs_goes s.price ss)
 
@@ -71,27 +85,9 @@ none_below floor ss h (suc k) l =
     omega (arith, ints)
 
 pub above_decided : (e : ℤ) (ss : List Step) → Decides (above e ss) (Above e ss)
-above_decided e ss = (some e ss, λ a. at e ss a.0 a.1 a.2)
-  where
-    some : (e : ℤ) (ss : List Step) → above e ss ≡ true → Above e ss
-    some e [] h = let z : ◌≡◌ {A = ℕ} 0 1 = cc in absurd (omega arith)
-    some e (s ∷ ss) h = elim (cases_Bool (lt_z e s.price)) [
-      | inl here ↦ (0, omega arith, int_lt_to _ _ here)
-      | inr not-here ↦ (let rest = some e ss (sym (ap (λ t. t || above e ss) not-here) ∙ h) in (suc rest.0, omega (arith, rest.1), rest.2))
-    ]
-
-    at : (e : ℤ) (ss : List Step) (k : ℕ) → k < length ss → e <ℤ price_at ss k → above e ss ≡ true
-    at e [] k l h = absurd (omega arith)
-    at e (s ∷ ss) zero l h = or_left _ _ (int_lt_from e s.price h)
-    at e (s ∷ ss) (suc k) l h = or_right _ _ (at e ss k (omega arith) h)
-
--- a search for the first step that fails a rule tells whether all keep it
-pub all_keep : (P : ℕ → Type 0) (test : Bool) (n r : ℕ) → Decides test ((k : ℕ) → k < n → P k) → r ≤ n → ((k : ℕ) → k < r → P k) → (r < n → P r → ⊥) → eqb r n ≡ test
-all_keep P true n r d w b f = elim (cases_lt r n) [ inl l ↦ absurd (f l (d.0 refl r l)) | inr l ↦ eq-eqb r n (omega arith) ]
-all_keep P false n r d w b f = elim (cases_lt r n) [
-  | inl l ↦ ne_eqb r n (omega arith)
-  | inr l ↦ (let t = d.1 (λ k m. b k (omega arith)) in let z : ◌≡◌ {A = ℕ} 0 1 = cc in absurd (omega arith))
-]
+above_decided e ss =
+    let d = Decides-by_or (λ s. lt_z e s.price) (λ s. e <ℤ s.price) (above e) (λ s. (int_lt_to e s.price, int_lt_from e s.price)) refl (λ _ _. refl) ss in
+    (λ h. (let a = d.0 h in (a.0, a.1, a.2 no_step)), λ a. d.1 (a.0, a.1, λ x. rw (get_or_default ss a.0 x no_step a.1) a.2))
 
 -- the last step is at the last place
 pub last_at : (d : ℤ) (ss : List Step) → 0 < length ss → last_upper d ss ≡ upper_at ss (length ss - 1)
@@ -101,13 +97,10 @@ last_at d (s ∷ (t ∷ ss)) h =
     let e : suc (length (t ∷ ss) - 1) ≡ length (s ∷ (t ∷ ss)) - 1 = omega arith in
     last_at s.upper (t ∷ ss) (omega arith) ∙ ap (λ n. upper_at (s ∷ (t ∷ ss)) n) e
 
--- and one for the first that has a property, whether any has
-pub some_has : (P : ℕ → Type 0) (test : Bool) (n r : ℕ) → Decides test ((k : ℕ) × (k < n) × P k) → r ≤ n → ((k : ℕ) → k < r → P k → ⊥) → (r < n → P r) → ltb r n ≡ test
-some_has P true n r d w b f = elim (cases_lt r n) [ inl l ↦ lt-ltb r n l | inr l ↦ (let a = d.0 refl in absurd (b a.0 (omega (arith, a.1)) a.2)) ]
-some_has P false n r d w b f = elim (cases_lt r n) [
-  | inl l ↦ (let t = d.1 (r, l, f l) in let z : ◌≡◌ {A = ℕ} 0 1 = cc in absurd (omega arith))
-  | inr l ↦ le-ltb r n l
-]
+-- with no step the one read there is no step
+pub last_is : (ss : List Step) → last_upper (pos 0) ss ≡ upper_at ss (length ss - 1)
+last_is [] = refl
+last_is (s ∷ ss) = last_at (pos 0) (s ∷ ss) (omega arith)
 
 pub curve_laws : CurveLaws
 curve_laws = record {

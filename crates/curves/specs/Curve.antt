@@ -1,16 +1,8 @@
 -- The steps of an offer: each an upper kW and a price in centavos per MWh.
-use Rattle.std.specs.Prelude.{ℕ, zero, suc, ◌-◌, ◌<◌, Bool, true, false, ◌&&◌, ◌||◌, List, [], ◌∷◌, ◌++◌, map, length, take, drop, replicate, ℤ, pos, ◌+ℤ◌, ◌-ℤ◌, ◌*ℤ◌, ◌≤ℤ◌, ◌<ℤ◌, int_le, int_lt, slice_index_or}
+use Rattle.std.specs.Prelude.{ℕ, zero, suc, ◌<◌, Bool, true, ◌&&◌, List, [], ◌∷◌, map, length, ℤ, pos, ◌+ℤ◌, ◌-ℤ◌, ◌*ℤ◌, ◌≤ℤ◌, ◌<ℤ◌, int_le, int_lt, slice_index_or}
 use Rattle.std.specs.Int.{int_min}
+use Rattle.std.specs.List.{list_any}
 use Rattle.curves.specs.declared.steps.Step.{Step}
-use Rattle.curves.specs.declared.steps.Steps.{Steps}
-
--- the steps of a body
-abbrev pub steps_in : Steps → List Step
-steps_in s = take s.count s.places
-
--- these steps in their places, and no step in the others
-abbrev pub packed : List Step → Steps
-packed ss = record { places = ss ++ replicate (8 - length ss) (record { upper = pos 0; price = pos 0 }); count = length ss }
 
 -- the part of output q that the step above `lower` kW has
 abbrev pub part_of : ℤ → ℤ → Step → ℤ
@@ -35,10 +27,6 @@ capped_step e s = record { upper = s.upper; price = int_min s.price e }
 
 abbrev pub capped_steps : ℤ → List Step → List Step
 capped_steps e ss = map (capped_step e) ss
-
--- places that hold no step stay as they are
-abbrev pub lowered : Steps → ℤ → Steps
-lowered s e = record { places = capped_steps e (steps_in s) ++ drop s.count s.places; count = s.count }
 
 abbrev pub no_step : Step
 no_step = record { upper = pos 0; price = pos 0 }
@@ -81,8 +69,7 @@ climbs low [] = true
 climbs low (s ∷ ss) = int_le low s.price && climbs s.price ss
 
 abbrev pub above : ℤ → List Step → Bool
-above e [] = false
-above e (s ∷ ss) = int_lt e s.price || above e ss
+above e ss = list_any (λ s. int_lt e s.price) ss
 
 -- the last upper kW, 0 with no step
 abbrev pub last_upper : ℤ → List Step → ℤ

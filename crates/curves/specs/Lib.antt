@@ -2,4 +2,5 @@ pub mod Costs
 pub mod Curve
 pub mod CurveLaws
 pub mod Fits
+pub mod Places
 pub mod Priced

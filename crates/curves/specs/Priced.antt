@@ -1,12 +1,13 @@
 -- The cost of the steps of a body, for every body and every output.
-use Rattle.std.specs.Prelude.{Bool, cond, not, ◌&&◌, ℤ, pos, neg_ℤ, int_le, nat_le}
-use Rattle.curves.specs.declared.steps.Steps.{Steps}
-use Rattle.curves.specs.Curve.{steps_in, rises, climbs, above, cost_at}
+use Rattle.std.specs.Prelude.{Bool, cond, not, ◌&&◌, List, length, ℤ, pos, neg_ℤ, int_le, nat_le}
+use Rattle.curves.specs.declared.steps.Step.{Step}
+use Rattle.curves.specs.declared.steps.TheConstants.{PLACES, MOST_OUTPUT, MOST_PRICE}
+use Rattle.curves.specs.Curve.{rises, climbs, above, cost_at}
 
 -- steps that some book could admit: they rise, at prices that never fall, within 10,000,000 centavos per MWh either way
-abbrev pub priceable : Steps → Bool
-priceable s = nat_le s.count 8 && (rises (pos 0) (steps_in s) && (climbs (neg_ℤ (pos 10000000)) (steps_in s) && not (above (pos 10000000) (steps_in s))))
+abbrev pub priceable : List Step → Bool
+priceable ss = nat_le (length ss) PLACES && (rises (pos 0) ss && (climbs (neg_ℤ MOST_PRICE) ss && not (above MOST_PRICE ss)))
 
 -- their cost at an output from 0 to 2,000,000 kW, else 0
-abbrev pub step_cost : Steps → ℤ → ℤ
-step_cost s q = cond (priceable s && (int_le (pos 0) q && int_le q (pos 2000000))) (cost_at q (steps_in s)) (pos 0)
+abbrev pub step_cost : List Step → ℤ → ℤ
+step_cost ss q = cond (priceable ss && (int_le (pos 0) q && int_le q MOST_OUTPUT)) (cost_at q ss) (pos 0)

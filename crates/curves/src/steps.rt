@@ -1,8 +1,9 @@
-ghost use Rattle.std.specs.Prelude.{◌≡◌, ◌<◌, length, pos, MatchOption};
-ghost use Rattle.curves.specs.Curve.{steps_in, packed, lowered, rises, climbs, above, last_upper};
+ghost use Rattle.std.specs.Prelude.{◌≡◌, ◌<◌, ◌≤◌, length, pos, MatchOption};
+ghost use Rattle.curves.specs.Curve.{rises, climbs, above, last_upper, capped_steps};
 ghost use Rattle.curves.specs.Priced.{priceable, step_cost};
 
-use crate::curve::{cap_each, cost_at, is_above, is_climbing, is_rising, last_upper};
+use crate::curve::{cap_each, cost_at};
+use std::marker::Model;
 
 // A step of an offer: its power up to `upper` kW, at `price` centavos per MWh.
 #[derive(Clone, Copy)]
@@ -14,17 +15,39 @@ pub struct Step {
 // How many steps a body has room for.
 pub const PLACES: usize = 8;
 
-// The steps of a body: the first `count` of the places.
+// The largest output of some book, in kW.
+const MOST_OUTPUT: i64 = 2_000_000;
+
+// The largest price of some book either way, in centavos per MWh.
+const MOST_PRICE: i64 = 10_000_000;
+
+// The steps of a body, in the first `count` of the places; the others hold no step.
 #[derive(Clone, Copy)]
 pub struct Steps {
     places: [Step; PLACES],
     count: usize,
 }
 
+impl Model for Steps {
+    ghost use Rattle.std.specs.Prelude.{List, length, take};
+    ghost use Rattle.curves.specs.declared.steps.Step.{Step};
+    ghost use Rattle.curves.specs.Places.{packed, Packed};
+
+    ghost Value = { List Step };
+
+    ghost view = { λ s. take s.count s.places };
+
+    ghost invariant = { λ s. Packed s.places s.count };
+
+    ghost inverse = { λ ss. record { places = packed ss; count = length ss } };
+
+    ghost inverse_ok = { λ s h i. record { places = h.rest i; count = h.counted i } };
+}
+
 impl Steps {
     // These steps, if there is room for them.
     pub fn of(steps: &[Step]) -> Option<Steps>
-        ensures { MatchOption result (8 < length steps.now) (λ s. (s ≡ packed steps.now) × (steps_in s ≡ steps.now)) }
+        ensures { MatchOption result (PLACES < length steps.now) (λ s. s ≡ steps.now) }
     {
         if steps.len() > PLACES {
             return None;
@@ -39,51 +62,55 @@ impl Steps {
 
     // The steps.
     pub fn used(&self) -> &[Step]
-        ensures { result.now ≡ steps_in self.now }
+        ensures { result.now ≡ self.now }
     {
-        &self.places[0..self.count.min(PLACES)]
+        &self.places[0..self.count]
     }
 
-    // How many steps there are said to be; more than the places are no steps that a book admits.
+    // How many steps there are.
     pub fn count(&self) -> usize
-        ensures { result ≡ self.now.count }
+        ensures value { result ≡ length self.now }
+        ensures few { result ≤ PLACES }
     {
         self.count
     }
 
     // Whether upper kW rise strictly, from at least 1.
     pub fn is_rising(&self) -> bool
-        ensures { result ≡ rises (pos 0) (steps_in self.now) }
+        ensures { result ≡ rises (pos 0) self.now }
     {
-        is_rising(self.used())
+        let steps = self.used();
+        steps.first().is_none_or(|s| 0 < s.upper) && steps.is_sorted_by(|a, b| a.upper < b.upper)
     }
 
     // Whether prices never fall, from at least the floor.
     pub fn is_climbing(&self, floor: i64) -> bool
-        ensures { result ≡ climbs floor (steps_in self.now) }
+        ensures { result ≡ climbs floor self.now }
     {
-        is_climbing(self.used(), floor)
+        let steps = self.used();
+        steps.first().is_none_or(|s| floor <= s.price)
+            && steps.is_sorted_by(|a, b| a.price <= b.price)
     }
 
     // Whether some price is above the ceiling.
     pub fn is_above(&self, ceiling: i64) -> bool
-        ensures { result ≡ above ceiling (steps_in self.now) }
+        ensures { result ≡ above ceiling self.now }
     {
-        is_above(self.used(), ceiling)
+        self.used().iter().any(|s| s.price > ceiling)
     }
 
     // The last upper kW, or 0.
     pub fn last_upper(&self) -> i64
-        ensures { result ≡ last_upper (pos 0) (steps_in self.now) }
+        ensures { result ≡ last_upper (pos 0) self.now }
     {
-        last_upper(self.used())
+        self.used().last().map_or(0, |s| s.upper)
     }
 
     // The cost of one hour at an output from 0 to 2,000,000 kW, of steps that some book could admit; else 0.
     pub fn cost(&self, output: i64) -> i64
         ensures { result ≡ step_cost self.now output }
     {
-        if self.is_priceable() && 0 <= output && output <= 2_000_000 {
+        if self.is_priceable() && (0..=MOST_OUTPUT).contains(&output) {
             cost_at(self.used(), output)
         } else {
             0
@@ -93,19 +120,19 @@ impl Steps {
     fn is_priceable(&self) -> bool
         ensures { result ≡ priceable self.now }
     {
-        PLACES >= self.count
-            && self.is_rising()
-            && self.is_climbing(-10_000_000)
-            && !self.is_above(10_000_000)
+        prove!(self.count <= PLACES);
+        self.is_rising() && self.is_climbing(-MOST_PRICE) && !self.is_above(MOST_PRICE)
     }
 
     // Each price the lesser of itself and the ceiling.
     pub fn capped(&self, ceiling: i64) -> Steps
-        ensures { result ≡ lowered self.now ceiling }
+        ensures { result ≡ capped_steps ceiling self.now }
     {
-        let mut out = *self;
-        let count = self.count.min(PLACES);
-        cap_each(&mut out.places[0..count], ceiling);
-        out
+        let mut places = self.places;
+        cap_each(&mut places[0..self.count], ceiling);
+        Steps {
+            places,
+            count: self.count,
+        }
     }
 }

@@ -12,13 +12,12 @@ use Rattle.std.specs.Int.{int_min}
 use Rattle.std.proofs.lemmas.Int.{ints, clamps}
 use Rattle.std.proofs.lemmas.Bool.{and_from, or_from, or_parts, not-true, not_from_false}
 use Rattle.std.proofs.lemmas.Bool.Decides.{Decides-int_eq, Decides-not, not_from_Decides}
-use Rattle.curves.specs.declared.steps.Step.{Step}
 use Rattle.thermal.specs.declared.Thermal.{Thermal}
-use Rattle.curves.specs.Curve.{upper_at, steps_in, lowered, above, climbs, rises, last_upper}
+use Rattle.curves.specs.Curve.{capped_steps, above, climbs, rises, last_upper}
 use Rattle.thermal.specs.Thermals.{Status, Economic, Emergency, Start, Admissible, good_status, good_economic, good_emergency_min, good_emergency_max, good_start, good_steps, admits, capped_body, meaning, written}
-use Rattle.curves.proofs.Curves.{no_dearer, above_capped, above_lower, above_wider, lesser_own, rises_grows, rises_capped, last_capped, climbs_capped, climbs_wider, steps_lowered, lowered_own}
+use Rattle.curves.proofs.Curves.{no_dearer, above_capped, above_lower, above_wider, lesser_own, rises_grows, rises_capped, last_capped, climbs_capped, climbs_wider, capped_own}
 use Rattle.curves.proofs.Decisions.{int_lt_not}
-use Rattle.curves.proofs.Places.{rising_decided, climbing_decided, above_decided, last_at}
+use Rattle.curves.proofs.Places.{rising_decided, climbing_decided, above_decided, last_is, curve_laws}
 use Rattle.offers.proofs.WidestAllowed.{widest_allowed}
 
 -- the rules as the tests have them
@@ -27,12 +26,12 @@ pub record Passed (b : Thermal) (t : Terms) : Type 0 where
   pub economic : Economic b
   pub emergency : Emergency b t.maximum
   pub start : Start b
-  pub some : 1 ≤ b.steps.count
-  pub few : b.steps.count ≤ 8
-  pub rising : rises (pos 0) (steps_in b.steps) ≡ true
-  pub last : last_upper (pos 0) (steps_in b.steps) ≡ b.economic_max
-  pub climbing : climbs t.floor (steps_in b.steps) ≡ true
-  pub below : above t.cap (steps_in b.steps) ≡ false
+  pub some : 1 ≤ length b.steps
+  pub few : length b.steps ≤ 8
+  pub rising : rises (pos 0) b.steps ≡ true
+  pub last : last_upper (pos 0) b.steps ≡ b.economic_max
+  pub climbing : climbs t.floor b.steps ≡ true
+  pub below : above t.cap b.steps ≡ false
 
 pub parts : (b : Thermal) (t : Terms) → admits b t ≡ true → Passed b t
 parts b t h = record {
@@ -66,14 +65,10 @@ whole b t h =
     let start_good : good_start b ≡ true = grind (arith, ints) in
     and_from _ _ status_good (and_from _ _ (and_from _ _ (and_from _ _ economic_good min_good) max_good) (and_from _ _ start_good (steps_whole b t h)))
 
-last_is : (ss : List Step) → last_upper (pos 0) ss ≡ upper_at ss (length ss - 1)
-last_is [] = refl
-last_is (s ∷ ss) = last_at (pos 0) (s ∷ ss) (omega arith)
-
 -- the tests decide the rules
 pub decided : (b : Thermal) (t : Terms) → Decides (admits b t) (Admissible b t)
 decided b t =
-    let ss = steps_in b.steps in (
+    let ss = b.steps in (
       (λ h. (let a = parts b t h in record {
         status = a.status;
         economic = a.economic;
@@ -106,7 +101,7 @@ widest : (b : Thermal) (t : Terms) → Allowed t → admits b t ≡ true → adm
 widest b t l h =
     let a = parts b t h in
     let e = a.emergency in
-    let ss = steps_in b.steps in
+    let ss = b.steps in
     whole b widest_terms (record {
       status = a.status;
       economic = a.economic;
@@ -129,39 +124,38 @@ module _ (b : Thermal) (t : Terms) (c : Ceilings) (h : Filed written b t c) wher
       let a = parts b t h.admitted in
       let start = a.start in
       let k = h.bring in
-      let ss = steps_in b.steps in
-      let w = steps_lowered b.steps c.energy in
+      let ss = b.steps in
+      let many = curve_laws.capped_count c.energy ss in
       whole (capped_body b c) t (record {
         status = record { low = a.status.low; high = a.status.high };
         economic = record { low = a.economic.low; ordered = a.economic.ordered };
         emergency = record { low = a.emergency.low; minimums = a.emergency.minimums; maximums = a.emergency.maximums; registered = a.emergency.registered };
         start = record { low = omega (arith, ints, clamps); high = omega (arith, ints, clamps) };
-        some = a.some;
-        few = a.few;
-        rising = ap (rises (pos 0)) w ∙ rises_capped (pos 0) c.energy ss ∙ a.rising;
-        last = ap (last_upper (pos 0)) w ∙ last_capped (pos 0) c.energy ss ∙ a.last;
-        climbing = ap (climbs t.floor) w ∙ climbs_capped t.floor t.floor c.energy ss a.climbing (≤ℤ_refl t.floor) k.energy_low;
-        below = ap (above t.cap) w ∙ above_lower c.energy t.cap ss a.below;
+        some = rw many a.some;
+        few = rw many a.few;
+        rising = rises_capped (pos 0) c.energy ss ∙ a.rising;
+        last = last_capped (pos 0) c.energy ss ∙ a.last;
+        climbing = climbs_capped t.floor t.floor c.energy ss a.climbing (≤ℤ_refl t.floor) k.energy_low;
+        below = above_lower c.energy t.cap ss a.below;
       })
 
   none : written.exceeds (capped_body b c) c ≡ false
   none =
       let p : int_min b.start_price c.start ≤ℤ c.start = omega (arith, ints, clamps) in
-      or_from _ _ (ap (above c.energy) (steps_lowered b.steps c.energy) ∙ above_capped c.energy (steps_in b.steps)) (int_lt_not _ _ p)
+      or_from _ _ (above_capped c.energy b.steps) (int_lt_not _ _ p)
 
   less : (q : ℤ) → written.cost (capped_body b c) q ≤ℤ written.cost b q
   less q =
       let a = parts b t h.admitted in
-      let ss = steps_in b.steps in
-      rw (steps_lowered b.steps c.energy) (no_dearer q (pos 0) c.energy ss (rises_grows (pos 0) ss a.rising))
+      no_dearer q (pos 0) c.energy b.steps (rises_grows (pos 0) b.steps a.rising)
 
 -- where no price is above its ceiling, capping changes nothing
 own : (b : Thermal) (c : Ceilings) → written.exceeds b c ≡ false → capped_body b c ≡ b
 own b c x =
-    let y = or_parts (above c.energy (steps_in b.steps)) (int_lt c.start b.start_price) x in
-    let u : lowered b.steps c.energy ≡ b.steps = lowered_own b.steps c.energy y.0 in
+    let y = or_parts (above c.energy b.steps) (int_lt c.start b.start_price) x in
+    let u : capped_steps c.energy b.steps ≡ b.steps = capped_own c.energy b.steps y.0 in
     let v : int_min b.start_price c.start ≡ b.start_price = lesser_own b.start_price c.start y.1 in
-    ap (λ p. record b { start_price = p; steps = lowered b.steps c.energy }) v ∙ ap (λ l. record b { steps = l }) u
+    ap (λ p. record b { start_price = p; steps = capped_steps c.energy b.steps }) v ∙ ap (λ l. record b { steps = l }) u
 
 pub capping : Capping written
 capping = record {

@@ -1,10 +1,8 @@
-use Rattle.std.proofs.Common.{◌-◌, length, refl, arith}
-use Rattle.std.proofs.lemmas.List.{take_at}
-use Rattle.curves.proofs.Curves.{packed_is}
+use Rattle.std.proofs.Common.{◌-◌, length, arith}
+use Rattle.curves.proofs.Packing.{copied_over}
 use Rattle.curves.proofs.steps.Steps.of.Goals as goal
 
-pub returns : goal.returns
-returns c =
+pub invariant_of-result : goal.invariant_of-result
+invariant_of-result c =
     let ss = c.args.steps.now in
-    let copied = c.copy_from_slice.ensures.after in
-    (packed_is ss _ (length ss - 0) copied (omega arith), rw copied (take_at ss _ _ refl))
+    copied_over ss _ (length ss - 0) c.copy_from_slice.ensures.after (omega arith) c.if-steps-gt-PLACES.false

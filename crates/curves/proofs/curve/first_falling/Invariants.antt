@@ -1,6 +1,0 @@
-use Rattle.std.proofs.Common.{ℕ, ◌<◌, ◌≤ℤ◌}
-use Rattle.curves.specs.Curve.{price_before, price_at}
-use Rattle.curves.proofs.curve.first_falling.Given as goal
-
-abbrev pub invariant-loop-i : goal.invariant-loop-i
-invariant-loop-i l = (k : ℕ) → k < l.i → price_before l.floor l.steps k ≤ℤ price_at l.steps k
