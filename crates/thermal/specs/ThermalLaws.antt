@@ -1,5 +1,6 @@
 -- Thermal bodies keep their rules, and are capped as every kind is.
-use Rattle.std.specs.Prelude.{◌≡◌, ◌-◌, ◌≤◌, true, false, List, [], ◌∷◌, length, ℤ, pos, ◌≤ℤ◌, Decides, int_lt, refl}
+use Rattle.std.specs.Prelude.{◌≡◌, ◌≤◌, true, false, not, ◌&&◌, length, ℤ, pos, ◌≤ℤ◌, Decides, int_lt, nat_le, refl}
+use Rattle.std.specs.Ordering.{int_eq}
 use Rattle.std.proofs.Common.{sym, ◌∙◌, ap, arith, le-leb}
 use Rattle.std.specs.Int.Signed.{≤ℤ_refl}
 use Rattle.offers.specs.declared.ceilings.Ceilings.{Ceilings}
@@ -10,11 +11,11 @@ use Rattle.offers.specs.Laws.{Allowed, Filed, Lawful}
 use Rattle.offers.specs.Widest.{widest_terms}
 use Rattle.std.specs.Int.{int_min}
 use Rattle.std.proofs.lemmas.Int.{ints, clamps}
-use Rattle.std.proofs.lemmas.Bool.{and_from, or_from, or_parts, not-true, not_from_false}
+use Rattle.std.proofs.lemmas.Bool.{and_parts, and_from, or_from, or_parts, not-true, not_from_false}
 use Rattle.std.proofs.lemmas.Bool.Decides.{Decides-int_eq, Decides-not, not_from_Decides}
 use Rattle.thermal.specs.declared.Thermal.{Thermal}
 use Rattle.curves.specs.Curve.{capped_steps, above, climbs, rises, last_upper}
-use Rattle.thermal.specs.Thermals.{Status, Economic, Emergency, Start, Admissible, good_status, good_economic, good_emergency_min, good_emergency_max, good_start, good_steps, admits, capped_body, meaning, written}
+use Rattle.thermal.specs.Thermals.{Status, Economic, Emergency, Start, Admissible, good_status, good_economic, good_limits, good_emergency_min, good_emergency_max, good_start, good_steps, admits, capped_body, meaning, written}
 use Rattle.curves.proofs.Curves.{no_dearer, above_capped, above_lower, above_wider, lesser_own, rises_grows, rises_capped, last_capped, climbs_capped, climbs_wider, capped_own}
 use Rattle.curves.proofs.Decisions.{int_lt_not}
 use Rattle.curves.proofs.Places.{rising_decided, climbing_decided, above_decided, last_is, curve_laws}
@@ -33,19 +34,33 @@ pub record Passed (b : Thermal) (t : Terms) : Type 0 where
   pub climbing : climbs t.floor b.steps ≡ true
   pub below : above t.cap b.steps ≡ false
 
+steps_good : (b : Thermal) (t : Terms) → admits b t ≡ true → good_steps b t.floor t.cap ≡ true
+steps_good b t h =
+    let p = and_parts (good_status b) (good_limits b t.maximum && (good_start b && good_steps b t.floor t.cap)) h in
+    let q = and_parts (good_limits b t.maximum) (good_start b && good_steps b t.floor t.cap) p.1 in
+    (and_parts (good_start b) (good_steps b t.floor t.cap) q.1).1
+
 pub parts : (b : Thermal) (t : Terms) → admits b t ≡ true → Passed b t
-parts b t h = record {
-  status = record { low = grind (arith, ints); high = grind (arith, ints) };
-  economic = record { low = grind (arith, ints); ordered = grind (arith, ints) };
-  emergency = record { low = grind (arith, ints); minimums = grind (arith, ints); maximums = grind (arith, ints); registered = grind (arith, ints) };
-  start = record { low = grind (arith, ints); high = grind (arith, ints) };
-  some = grind (arith, ints);
-  few = grind (arith, ints);
-  rising = grind (arith, ints);
-  last = grind (arith, ints);
-  climbing = grind (arith, ints);
-  below = grind (arith, ints);
-}
+parts b t h =
+    let ss = b.steps in
+    let counted = nat_le 1 (length ss) && nat_le (length ss) 8 in
+    let priced = climbs t.floor ss && not (above t.cap ss) in
+    let p = and_parts counted (rises (pos 0) ss && (int_eq (last_upper (pos 0) ss) b.economic_max && priced)) (steps_good b t h) in
+    let q = and_parts (rises (pos 0) ss) (int_eq (last_upper (pos 0) ss) b.economic_max && priced) p.1 in
+    let r = and_parts (int_eq (last_upper (pos 0) ss) b.economic_max) priced q.1 in
+    let x = and_parts (climbs t.floor ss) (not (above t.cap ss)) r.1 in
+    record {
+      status = record { low = grind (arith, ints); high = grind (arith, ints) };
+      economic = record { low = grind (arith, ints); ordered = grind (arith, ints) };
+      emergency = record { low = grind (arith, ints); minimums = grind (arith, ints); maximums = grind (arith, ints); registered = grind (arith, ints) };
+      start = record { low = grind (arith, ints); high = grind (arith, ints) };
+      some = grind (arith, ints);
+      few = grind (arith, ints);
+      rising = q.0;
+      last = grind (arith, ints);
+      climbing = x.0;
+      below = not-true _ x.1;
+    }
 
 steps_whole : (b : Thermal) (t : Terms) → Passed b t → good_steps b t.floor t.cap ≡ true
 steps_whole b t h =
