@@ -28,6 +28,7 @@ pub fn enter_all<B: Copy, L: Ledger<B>>(ledger: &mut L, entries: &[Entry<B>]) ->
     ensures after { L.Ledger.held ledger.new ≡ held_after (L.Ledger.held ledger.old) entries.now }
     ensures wrote { Trace L.Ledger.writes ledger.old (writes_of (L.Ledger.held ledger.old) entries.now) ledger.new }
 {
+    // A loop and no chain of closures, since each call changes the ledger.
     let mut accepted = 0;
     for e in entries {
         if enter(ledger, *e) {
