@@ -53,7 +53,7 @@ impl Steps {
             return None;
         }
         let mut places = [Step { upper: 0, price: 0 }; PLACES];
-        places[0..steps.len()].copy_from_slice(steps);
+        places[..steps.len()].copy_from_slice(steps);
         Some(Steps {
             places,
             count: steps.len(),
@@ -64,7 +64,7 @@ impl Steps {
     pub fn used(&self) -> &[Step]
         ensures { result.now ≡ self.now }
     {
-        &self.places[0..self.count]
+        &self.places[..self.count]
     }
 
     // How many steps there are.
@@ -120,6 +120,7 @@ impl Steps {
     fn is_priceable(&self) -> bool
         ensures { result ≡ priceable self.now }
     {
+        // `priceable` asks for it, and the type holds it.
         prove!(self.count <= PLACES);
         self.is_rising() && self.is_climbing(-MOST_PRICE) && !self.is_above(MOST_PRICE)
     }
@@ -129,7 +130,7 @@ impl Steps {
         ensures { result ≡ capped_steps ceiling self.now }
     {
         let mut places = self.places;
-        cap_each(&mut places[0..self.count], ceiling);
+        cap_each(&mut places[..self.count], ceiling);
         Steps {
             places,
             count: self.count,

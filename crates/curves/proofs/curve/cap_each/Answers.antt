@@ -6,6 +6,5 @@ use Rattle.curves.proofs.curve.cap_each.Goals as goal
 pub loop-s-preserved : goal.loop-s-preserved
 loop-s-preserved c =
     let i = c.loop-s.s-index in
-    let f = c.ranges.ceiling in
     let more = map_over_more (capped_step c.args.ceiling) c.args.steps.now c.loop-s.steps i (get_or c.loop-s.steps i no_step) c.loop-s-test.true (search rules) (search rules) in
     search rules
