@@ -34,7 +34,7 @@ impl Size {
     }
 }
 
-// Whether a ledger can have this size over this many slots, of which it takes `each` for every place: 1 where no ledger has the size, 2 where slots are wanting.
+// Whether a ledger can have this size over this many slots, of which it takes `each` for every place: 1 where no ledger has the size, 2 where slots are wanting. Units and places are two numbers of the call here, which may be anything; `Size` is what they become.
 pub fn check_size(units: i64, places: i64, each: u8, slots: usize) -> Result<(), LedgerRefusal>
     ensures { result ≡ size_answer units places each slots }
 {
