@@ -7,7 +7,6 @@ use Rattle.std.proofs.lemmas.List.{at_drop_more, at_drop_all}
 use Rattle.std.proofs.lemmas.Int.{ints, clamps}
 use Rattle.std.proofs.lemmas.Bool.{and_parts, and_from, or_parts, or_from, cond-false}
 use Rattle.curves.specs.declared.steps.Step.{Step}
-use Rattle.curves.specs.declared.steps.TheConstants.{PLACES, MOST_OUTPUT, MOST_PRICE}
 use Rattle.curves.specs.Curve.{no_step, part_cost, cost_above, cost_at, capped_step, capped_steps, rises, climbs, above, last_upper}
 use Rattle.curves.specs.Fits.{PartFits, CostFits}
 use Rattle.curves.proofs.Decisions.{int_le_from, int_le_to, int_lt_to, int_lt_not, int_lt_not_to}
@@ -109,7 +108,7 @@ part_bounds : (s : Step) (lower q : ℤ) → PartFits s lower q → (part_cost q
 part_bounds s lower q h =
     let w = int_min q s.upper -ℤ int_min q lower in
     let a : pos 0 ≤ℤ w = part_grows q lower s.upper h.climbs in
-    let b : w ≤ℤ MOST_OUTPUT = omega (arith, ints, clamps) in
+    let b : w ≤ℤ pos 2000000 = omega (arith, ints, clamps) in
     (times_high w s.price 2000000 10000000 a b h.price_high, times_low w s.price 2000000 10000000 a b h.price_low)
 
 pub part_difference : (s : Step) (lower q : ℤ) → PartFits s lower q → SFits w64 (int_min q s.upper -ℤ int_min q lower)
@@ -121,27 +120,14 @@ part_product s lower q h = let b = part_bounds s lower q h in omega (arith, ints
 -- the sum of the parts of the first i steps, which end at `lower` kW
 pub record Running (q : ℤ) (all : List Step) (lower sum : ℤ) (i : ℕ) : Type 0 where
   pub from_0 : pos 0 ≤ℤ q
-  pub to_most : q ≤ℤ MOST_OUTPUT
+  pub to_most : q ≤ℤ pos 2000000
   pub value : cost_at q all ≡ (sum +ℤ cost_above q lower (drop i all))
   pub rising : rises lower (drop i all) ≡ true
-  pub climbing : climbs (neg_ℤ MOST_PRICE) (drop i all) ≡ true
-  pub below : above MOST_PRICE (drop i all) ≡ false
+  pub climbing : climbs (neg_ℤ (pos 10000000)) (drop i all) ≡ true
+  pub below : above (pos 10000000) (drop i all) ≡ false
   pub lower_low : pos 0 ≤ℤ lower
   pub high : sum ≤ℤ pos (i * most_part)
   pub low : neg_ℤ (pos (i * most_part)) ≤ℤ sum
-
-pub running_none : (q : ℤ) (all : List Step) → CostFits all q → Running q all (pos 0) (pos 0) 0
-running_none q all h = record {
-  from_0 = h.from_0;
-  to_most = h.to_most;
-  value = sym (+ℤ_idl _);
-  rising = h.rising;
-  climbing = h.climbing;
-  below = h.low;
-  lower_low = ≤ℤ_refl (pos 0);
-  high = ≤ℤ_refl (pos 0);
-  low = ≤ℤ_refl (pos 0);
-}
 
 module _ (q : ℤ) (all : List Step) (lower sum : ℤ) (i : ℕ) (h : Running q all lower sum i) (t : i < length all) where
   here : Step
@@ -154,11 +140,11 @@ module _ (q : ℤ) (all : List Step) (lower sum : ℤ) (i : ℕ) (h : Running q 
   rising_here : (lt_z lower (get_or all i no_step).upper ≡ true) × (rises (get_or all i no_step).upper (drop (i + 1) all) ≡ true)
   rising_here = and_parts _ _ (sym (at_drop_more (rises lower) all i no_step t) ∙ h.rising)
 
-  climbing_here : (le_z (neg_ℤ MOST_PRICE) (get_or all i no_step).price ≡ true) × (climbs (get_or all i no_step).price (drop (i + 1) all) ≡ true)
-  climbing_here = and_parts _ _ (sym (at_drop_more (climbs (neg_ℤ MOST_PRICE)) all i no_step t) ∙ h.climbing)
+  climbing_here : (le_z (neg_ℤ (pos 10000000)) (get_or all i no_step).price ≡ true) × (climbs (get_or all i no_step).price (drop (i + 1) all) ≡ true)
+  climbing_here = and_parts _ _ (sym (at_drop_more (climbs (neg_ℤ (pos 10000000))) all i no_step t) ∙ h.climbing)
 
-  below_here : (lt_z MOST_PRICE (get_or all i no_step).price ≡ false) × (above MOST_PRICE (drop (i + 1) all) ≡ false)
-  below_here = or_parts _ _ (sym (at_drop_more (above MOST_PRICE) all i no_step t) ∙ h.below)
+  below_here : (lt_z (pos 10000000) (get_or all i no_step).price ≡ false) × (above (pos 10000000) (drop (i + 1) all) ≡ false)
+  below_here = or_parts _ _ (sym (at_drop_more (above (pos 10000000)) all i no_step t) ∙ h.below)
 
   pub running_fits : PartFits (get_or all i no_step) lower q
   running_fits =
@@ -172,7 +158,7 @@ module _ (q : ℤ) (all : List Step) (lower sum : ℤ) (i : ℕ) (h : Running q 
         price_high = int_lt_not_to _ _ below_here.0;
       }
 
-  pub running_sum : length all ≤ PLACES → SFits w64 (sum +ℤ part_cost q lower (get_or all i no_step))
+  pub running_sum : length all ≤ 16 → SFits w64 (sum +ℤ part_cost q lower (get_or all i no_step))
   running_sum few =
       let b = part_bounds (get_or all i no_step) lower q running_fits in
       let x = h.high in
@@ -189,7 +175,7 @@ module _ (q : ℤ) (all : List Step) (lower sum : ℤ) (i : ℕ) (h : Running q 
         to_most = h.to_most;
         value = h.value ∙ ap (λ x. sum +ℤ x) (at_drop_more (cost_above q lower) all i no_step t) ∙ sym (+ℤ_assoc sum (part_cost q lower s) (cost_above q s.upper (drop (i + 1) all)));
         rising = rising_here.1;
-        climbing = climbs_wider s.price (neg_ℤ MOST_PRICE) (drop (i + 1) all) climbing_here.1 f.price_low;
+        climbing = climbs_wider s.price (neg_ℤ (pos 10000000)) (drop (i + 1) all) climbing_here.1 f.price_low;
         below = below_here.1;
         lower_low = omega (arith, ints);
         high = omega (arith, ints);

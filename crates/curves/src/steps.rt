@@ -21,7 +21,7 @@ const MOST_OUTPUT: i64 = 2_000_000;
 // The largest price of some book either way, in centavos per MWh.
 const MOST_PRICE: i64 = 10_000_000;
 
-// The steps of a body, in the first `count` of the places; the others hold no step.
+// The steps of a body, in the first `count` of the places; the others hold no step. A body is plain data that is copied, and no memory is allocated.
 #[derive(Clone, Copy)]
 pub struct Steps {
     places: [Step; PLACES],
@@ -47,7 +47,7 @@ impl Model for Steps {
 impl Steps {
     // These steps, if there is room for them.
     pub fn of(steps: &[Step]) -> Option<Steps>
-        ensures { MatchOption result (PLACES < length steps.now) (λ s. s ≡ steps.now) }
+        ensures { MatchOption result (8 < length steps.now) (λ s. s ≡ steps.now) }
     {
         if steps.len() > PLACES {
             return None;
@@ -70,7 +70,7 @@ impl Steps {
     // How many steps there are.
     pub fn count(&self) -> usize
         ensures value { result ≡ length self.now }
-        ensures few { result ≤ PLACES }
+        ensures few { result ≤ 8 }
     {
         self.count
     }

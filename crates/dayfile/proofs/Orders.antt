@@ -36,9 +36,6 @@ begins_push line seen c h n = record {
   once = distinct_push seen c h.once n.fresh;
 }
 
-pub begins_none : (line : List ℕ) → Begins line []
-begins_none line = record { names = refl; once = λ j k a b. absurd (omega arith) }
-
 -- the loop over the places of the names
 module _ (line : List ℕ) (cs : List Column) (i : ℕ) (l : i < 7) (seven : length cs ≡ 7) (h : Begins line (take i cs)) where
   -- no new name comes

@@ -37,9 +37,6 @@ module _ {B S : Type 0} (W : S → Write B → S → Type 0) (holds : S → Held
     pub trace : Trace W s (writes_of (holds s) es) t
     pub count : n ≡ length (writes_of (holds s) es)
 
-  pub entered_none : (s : S) → Entered s s [] 0
-  entered_none s = record { held = refl; trace = refl; count = refl }
-
   one_write : (m t : S) (r : Result (Write B) LedgerRefusal) → Wrote W m r t → Trace W m (with_write r []) t
   one_write m t (Ok w) did = (t, did, refl)
   one_write m t (Err e) did = sym did

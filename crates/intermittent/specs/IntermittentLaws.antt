@@ -1,15 +1,18 @@
 -- Intermittent bodies keep their rules, and are capped as every kind is.
-use Rattle.std.specs.Prelude.{◌≡◌, true, false, pos, Decides, refl}
-use Rattle.std.proofs.Common.{ap, arith}
+use Rattle.std.specs.Prelude.{◌≡◌, true, false, ◌&&◌, ℤ, pos, ◌-ℤ◌, ◌*ℤ◌, ◌≤ℤ◌, Decides, int_le, refl}
+use Rattle.std.proofs.Common.{sym, ◌∙◌, ap, arith}
+use Rattle.std.proofs.Math.IntN.{+ℤ_idr}
 use Rattle.std.specs.Int.Signed.{≤ℤ_refl}
 use Rattle.offers.specs.declared.ceilings.Ceilings.{Ceilings}
 use Rattle.offers.specs.declared.terms.Terms.{Terms}
-use Rattle.offers.specs.Bodies.{Rules, Capping}
+use Rattle.offers.specs.Bodies.{Rules, Capping, possible}
 use Rattle.offers.specs.BodyLaws.{lawful as body_lawful}
 use Rattle.offers.specs.Laws.{Allowed, Filed, Lawful}
 use Rattle.offers.specs.Widest.{widest_terms}
 use Rattle.std.specs.Int.{int_min}
 use Rattle.std.proofs.lemmas.Int.{ints, clamps}
+use Rattle.std.proofs.lemmas.Bool.{and_from, cond-true}
+use Rattle.curves.proofs.Decisions.{int_le_from}
 use Rattle.intermittent.specs.declared.Intermittent.{Intermittent}
 use Rattle.intermittent.specs.Intermittents.{Admissible, admits, lowered, steps_of, meaning, written}
 use Rattle.curves.proofs.Curves.{no_dearer}
@@ -24,6 +27,13 @@ decided b t = (
 
 widest : (b : Intermittent) (t : Terms) → Allowed t → admits b t ≡ true → admits b widest_terms ≡ true
 widest b t l h = grind (arith, ints)
+
+-- the one step's part of an output is all of it
+pub cost_is : (b : Intermittent) (q : ℤ) → possible written b ≡ true → pos 0 ≤ℤ q → q ≤ℤ b.forecast → (q *ℤ b.price) ≡ meaning.cost b q
+cost_is b q h low high =
+    let t = and_from (possible written b) (int_le (pos 0) q && int_le q b.forecast) h (and_from _ _ (int_le_from _ _ low) (int_le_from _ _ high)) in
+    let w : int_min q b.forecast -ℤ int_min q (pos 0) ≡ q = omega (arith, ints, clamps) in
+    sym (cond-true _ _ _ t ∙ +ℤ_idr _ ∙ ap (λ x. x *ℤ b.price) w)
 
 pub rules : Rules written Admissible
 rules = record { decides = decided; widest = widest; allowed = widest_allowed }

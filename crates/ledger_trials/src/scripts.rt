@@ -151,7 +151,7 @@ fn one_script(rt: HostRuntime) {
     assert_eq!(rt; tape.body(1, 1, -7), 15);
     assert_eq!(rt; tape.body(1, 3, -7), -7);
     assert_eq!(rt; shelf.body(2, 0, -7), -7);
-    assert_eq!(rt; Verdict::Capped.number(), 2);
+    assert_eq!(rt; i64::from(Verdict::Capped), 2);
 }
 
 // Fills and judges 32 units of 64 places each: only then is there no room.

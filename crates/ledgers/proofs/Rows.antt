@@ -12,13 +12,6 @@ use Rattle.ledgers.specs.Rows.{row}
 pub rows_apart : (v w k : ℕ) → v < w → v * k + k ≤ w * k
 rows_apart v w k h = omega (arith, mul-le-mul_right k h, suc-mul v k)
 
-pub filled_more : (lens : List ℕ) (u m k : ℕ) → ((j : ℕ) → get_or lens j 0 ≤ k) → m ≤ k → (j : ℕ) → get_or (set lens u m) j 0 ≤ k
-filled_more [] u m k all le j = zero-le
-filled_more (x ∷ lens) zero m k all le zero = le
-filled_more (x ∷ lens) zero m k all le (suc j) = all (suc j)
-filled_more (x ∷ lens) (suc u) m k all le zero = all zero
-filled_more (x ∷ lens) (suc u) m k all le (suc j) = filled_more lens u m k (λ i. all (suc i)) le j
-
 pub zeros : (n k : ℕ) → ◌≡◌ {A = ℕ} (get_or (replicate n 0) k 0) 0
 zeros zero k = refl
 zeros (suc n) zero = refl
@@ -128,15 +121,6 @@ module _ {X : Type 0} where
 
   pub row_empty : (xs : List X) (n k units u : ℕ) → row xs (replicate n 0) k units u ≡ []
   row_empty xs n k units u = ap (λ m. cond (ltb u units) (take m (drop (u * k) xs)) []) (zeros n u) ∙ both (ltb u units)
-
-  -- a place in use is of a row that there is
-  pub row_inside : (xs : List X) (lens : List ℕ) (k units u p : ℕ) → p < length (row xs lens k units u) → u < units
-  row_inside xs lens k units u p lt = ⊎_elim
-      (λ (t : (ltb u units ≡ true) × (u < units)). t.1)
-      (λ (t : (ltb u units ≡ false) × (units < suc u)).
-      let none : length (row xs lens k units u) ≡ 0 = ap length (row_unknown xs lens k units u (omega arith)) in
-      absurd (let f : ⊥ = omega arith in f))
-      (leb_tells (suc u) units)
 
   part_short : (b : Bool) (n k : ℕ) (xs : List X) → n ≤ k → length (cond b (take n xs) []) ≤ k
   part_short true n k xs le = simp length-take (omega arith)

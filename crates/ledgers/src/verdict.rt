@@ -10,14 +10,16 @@ pub enum Verdict {
     PassedOver = 3,
 }
 
-impl Verdict {
-    // A method, as each refusal has its number.
-    pub fn number(self) -> i64
-        ensures { result ≡ verdict_number self }
-    {
-        self as i64
-    }
+// The number of a verdict.
+impl From<Verdict> for i64 {
+    ghost from_gives = { λ verdict number. number ≡ verdict_number verdict };
 
+    fn from(verdict: Verdict) -> i64 {
+        verdict as i64
+    }
+}
+
+impl Verdict {
     // The verdict of a round that has this number, from 1 to 3. A `TryFrom` would take 0 too.
     pub fn of_round(number: i64) -> Option<Verdict>
         ensures value { result ≡ judgement number }

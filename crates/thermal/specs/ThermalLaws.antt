@@ -1,23 +1,25 @@
 -- Thermal bodies keep their rules, and are capped as every kind is.
-use Rattle.std.specs.Prelude.{◌≡◌, ◌≤◌, true, false, not, ◌&&◌, length, ℤ, pos, ◌≤ℤ◌, Decides, int_lt, nat_le, refl}
+use Rattle.std.specs.Prelude.{◌≡◌, ◌≤◌, true, false, not, ◌&&◌, length, ℤ, pos, ◌≤ℤ◌, Decides, int_le, int_lt, nat_le, refl}
 use Rattle.std.specs.Ordering.{int_eq}
 use Rattle.std.proofs.Common.{sym, ◌∙◌, ap, arith, le-leb}
 use Rattle.std.specs.Int.Signed.{≤ℤ_refl}
 use Rattle.offers.specs.declared.ceilings.Ceilings.{Ceilings}
 use Rattle.offers.specs.declared.terms.Terms.{Terms}
-use Rattle.offers.specs.Bodies.{Rules, Capping}
+use Rattle.offers.specs.Bodies.{Rules, Capping, possible}
 use Rattle.offers.specs.BodyLaws.{lawful as body_lawful}
 use Rattle.offers.specs.Laws.{Allowed, Filed, Lawful}
 use Rattle.offers.specs.Widest.{widest_terms}
 use Rattle.std.specs.Int.{int_min}
 use Rattle.std.proofs.lemmas.Int.{ints, clamps}
-use Rattle.std.proofs.lemmas.Bool.{and_parts, and_from, or_from, or_parts, not-true, not_from_false}
+use Rattle.std.proofs.lemmas.Bool.{and_parts, and_from, or_from, or_parts, cond-true, not-true, not_from_false}
 use Rattle.std.proofs.lemmas.Bool.Decides.{Decides-int_eq, Decides-not, not_from_Decides}
 use Rattle.thermal.specs.declared.Thermal.{Thermal}
 use Rattle.curves.specs.Curve.{capped_steps, above, climbs, rises, last_upper}
 use Rattle.thermal.specs.Thermals.{Status, Economic, Emergency, Start, Admissible, good_status, good_economic, good_limits, good_emergency_min, good_emergency_max, good_start, good_steps, admits, capped_body, meaning, written}
 use Rattle.curves.proofs.Curves.{no_dearer, above_capped, above_lower, above_wider, lesser_own, rises_grows, rises_capped, last_capped, climbs_capped, climbs_wider, capped_own}
-use Rattle.curves.proofs.Decisions.{int_lt_not}
+use Rattle.curves.specs.Priced.{step_cost}
+use Rattle.curves.proofs.Decisions.{int_le_from, int_lt_not}
+use Rattle.curves.proofs.Priced.{cost_told}
 use Rattle.curves.proofs.Places.{rising_decided, climbing_decided, above_decided, last_is, curve_laws}
 use Rattle.offers.proofs.WidestAllowed.{widest_allowed}
 
@@ -129,6 +131,13 @@ widest b t l h =
       climbing = climbs_wider t.floor widest_terms.floor ss a.climbing l.lowest;
       below = above_wider t.cap widest_terms.cap ss a.below l.highest;
     })
+
+-- a body that some book admits has the cost that its steps tell
+pub cost_is : (b : Thermal) (q : ℤ) → possible written b ≡ true → pos 0 ≤ℤ q → q ≤ℤ b.economic_max → step_cost b.steps q ≡ meaning.cost b q
+cost_is b q h low high =
+    let a = parts b widest_terms h in
+    let t = and_from (possible written b) (int_le (pos 0) q && int_le q b.economic_max) h (and_from _ _ (int_le_from _ _ low) (int_le_from _ _ high)) in
+    cost_told b.steps q a.few a.rising a.climbing a.below low (omega (arith, ints)) ∙ sym (cond-true _ _ _ t)
 
 pub rules : Rules written Admissible
 rules = record { decides = decided; widest = widest; allowed = widest_allowed }

@@ -64,8 +64,7 @@ impl Thermal {
         ensures { result ≡ good_steps self.now floor cap }
     {
         let steps = self.steps;
-        1 <= steps.count()
-            && steps.count() <= PLACES
+        (1..=PLACES).contains(&steps.count())
             && steps.is_rising()
             && steps.last_upper() == self.economic_max
             && steps.is_climbing(floor)
