@@ -45,7 +45,7 @@ impl Model for Steps {
 }
 
 impl Steps {
-    // These steps, if there is room for them.
+    // These steps, if there is room for them: one cause of refusal, and no error type for a `TryFrom`.
     pub fn of(steps: &[Step]) -> Option<Steps>
         ensures { MatchOption result (8 < length steps.now) (λ s. s ≡ steps.now) }
     {

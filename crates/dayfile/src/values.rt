@@ -65,7 +65,7 @@ impl<'a> Values<'a> {
         Call::try_from(self.cell(place)).or(Err(self.bad_cell(place)))
     }
 
-    // Each cell is as the call wants it, or the leftmost that is not is the fault.
+    // Each cell is as the call wants it, or the leftmost that is not is the fault. A loop by place: the fault names the place.
     fn check(&self, call: Call) -> Result<(), Fault>
         ensures { CellsChecked call self.now.order.columns self.now.number (line_in self.now.cut) result }
     {

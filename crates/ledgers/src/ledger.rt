@@ -41,7 +41,7 @@ pub trait Ledger<B> {
         ensures after { held self.new ≡ after_add (held self.old) (add_of (held self.old) unit (waiting submission)) }
         ensures wrote { Wrote writes self.old (add_of (held self.old) unit (waiting submission)) self.new };
 
-    // Gives a waiting filing its verdict and round.
+    // Gives a waiting filing its verdict and round. Both are numbers, as a call may bring any.
     fn mark(&mut self, unit: i64, place: i64, verdict: i64, round: i64) -> Result<(), LedgerRefusal>
         ensures answer { result ≡ told_of (mark_of (held self.old) unit place verdict round) }
         ensures after { held self.new ≡ after_mark (held self.old) (mark_of (held self.old) unit place verdict round) }

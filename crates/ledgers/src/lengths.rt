@@ -54,7 +54,7 @@ impl Lengths {
         u * self.places() + p
     }
 
-    // Counts the filing at a place of a unit, which is in its list or the next behind it.
+    // Counts the filing at a place of a unit: the list is then at least as long.
     pub fn count(&mut self, u: usize, p: usize)
         requires { (u < self.old.size.units) × (p < self.old.size.places) }
         ensures size { self.new.size ≡ self.old.size }

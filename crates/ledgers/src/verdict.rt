@@ -1,7 +1,7 @@
 ghost use Rattle.std.specs.Prelude.{◌≡◌};
 ghost use Rattle.ledgers.specs.Verdicts.{verdict_number, waits, judgement, OfRound};
 
-// What became of a filing, each with its number: it waits for its round, or the round's verdict.
+// What became of a filing, each with its number: it waits for its round, or the round's verdict. Waiting has a number like the others, and so is no `None`.
 #[derive(Clone, Copy, Debug, PartialEq, Eq)]
 pub enum Verdict {
     Waiting = 0,
@@ -20,7 +20,7 @@ impl From<Verdict> for i64 {
 }
 
 impl Verdict {
-    // The verdict of a round that has this number, from 1 to 3. A `TryFrom` would take 0 too.
+    // The verdict of a round that has this number, from 1 to 3. A `TryFrom` would be read as the way back from every number, 0 too.
     pub fn of_round(number: i64) -> Option<Verdict>
         ensures value { result ≡ judgement number }
         ensures told { OfRound number result }

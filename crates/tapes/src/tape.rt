@@ -8,7 +8,7 @@ use ledgers::write::Write;
 pub mod methods;
 pub mod store;
 
-// The first `used` slots are written. `latest` has at u * places + p the slot that counts for place p of unit u: an array with room for every size, since no memory is allocated.
+// The first `used` of the lent slots are written. `latest` has at u * places + p the slot that counts for place p of unit u: an array with room for every size, since no memory is allocated.
 #[derive(Drop)]
 pub struct Tape<'a, B> {
     slots: &'a mut [Write<B>],

@@ -5,7 +5,7 @@ use crate::hour::HOURS;
 use refusals::Refusal;
 
 impl CutGate {
-    // The gate that cuts at a minute from -10,080 to the end of the day; 12 at any other.
+    // The gate that cuts at a minute from -10,080 to the end of the day, or its refusal. By name and no `TryFrom`: the name says what the number is.
     pub fn at(minute: i64) -> Result<CutGate, Refusal>
         ensures { CutMade minute result }
     {

@@ -9,7 +9,7 @@ use crate::write::Write;
 use refusals::ledger::LedgerRefusal;
 
 // The filing at a place, if there is one.
-pub(crate) fn filing_of<B: Copy, S: Store<B>>(store: &S, unit: i64, place: i64) -> Option<Filing<B>>
+pub(crate) fn filing_in<B: Copy, S: Store<B>>(store: &S, unit: i64, place: i64) -> Option<Filing<B>>
     ensures { result ≡ filing_at (listed (S.Store.holds store.now) unit) place }
 {
     let u = below(unit, store.unit_count())?;
@@ -18,7 +18,7 @@ pub(crate) fn filing_of<B: Copy, S: Store<B>>(store: &S, unit: i64, place: i64) 
 }
 
 // The write that adds a filing at the end of the unit's list, or the refusal.
-pub(crate) fn adding<B: Copy, S: Store<B>>(
+pub fn add_in<B: Copy, S: Store<B>>(
     store: &S,
     unit: i64,
     filing: Filing<B>,
@@ -38,7 +38,7 @@ pub(crate) fn adding<B: Copy, S: Store<B>>(
 }
 
 // The write that gives a waiting filing its verdict and round, or the refusal.
-pub(crate) fn marking<B: Copy, S: Store<B>>(
+pub fn mark_in<B: Copy, S: Store<B>>(
     store: &S,
     unit: i64,
     place: i64,

@@ -5,7 +5,7 @@ use crate::filing::{Filing, Submission};
 use crate::ledger::Ledger;
 use crate::number::below;
 use crate::store::Store;
-use crate::store::decisions::{adding, filing_of, marking};
+use crate::store::decisions::{add_in, filing_in, mark_in};
 use refusals::ledger::LedgerRefusal;
 
 impl<B: Copy, S: Store<B>> Ledger<B> for S {
@@ -28,11 +28,11 @@ impl<B: Copy, S: Store<B>> Ledger<B> for S {
     }
 
     fn head(&self, unit: i64, place: i64) -> Option<Filing<()>> {
-        filing_of(self, unit, place).map(|f| f.head())
+        filing_in(self, unit, place).map(|f| f.head())
     }
 
     fn body(&self, unit: i64, place: i64, other: B) -> B {
-        filing_of(self, unit, place).map_or(other, |f| f.submission.body)
+        filing_in(self, unit, place).map_or(other, |f| f.submission.body)
     }
 
     fn add(&mut self, unit: i64, submission: Submission<B>) -> Result<i64, LedgerRefusal>
@@ -40,7 +40,7 @@ impl<B: Copy, S: Store<B>> Ledger<B> for S {
         ensures after { S.Store.holds self.new ≡ after_add (S.Store.holds self.old) (add_of (S.Store.holds self.old) unit (waiting submission)) }
         ensures wrote { Wrote S.Store.changes self.old (add_of (S.Store.holds self.old) unit (waiting submission)) self.new }
     {
-        let w = adding(self, unit, Filing::waiting(submission))?;
+        let w = add_in(self, unit, Filing::waiting(submission))?;
         self.write(w);
         Ok(w.place as i64)
     }
@@ -52,7 +52,7 @@ impl<B: Copy, S: Store<B>> Ledger<B> for S {
         verdict: i64,
         round: i64,
     ) -> Result<(), LedgerRefusal> {
-        let w = marking(self, unit, place, verdict, round)?;
+        let w = mark_in(self, unit, place, verdict, round)?;
         self.write(w);
         Ok(())
     }
