@@ -91,10 +91,10 @@ const OLD_WRITE: Write<i64> = Write {
     filing: OLD,
 };
 
-// Entries with the number and the place that each is answered: two units of three places each.
-const STEPS: usize = 32;
+const ENTRIES: usize = 32;
 
-fn steps() -> [(Entry<i64>, u32, i64); STEPS] {
+// Entries with the number and the place that each is answered: two units of three places each.
+fn answered() -> [(Entry<i64>, u32, i64); ENTRIES] {
     [
         (add(-1, 1, 10), 6, -1),
         (add(2, 1, 10), 6, -1),
@@ -139,7 +139,7 @@ fn one_script(rt: HostRuntime) {
     let mut shelf = Shelf::new(2, 3, &mut shelf_slots);
     let mut tape = Tape::new(2, 3, &mut tape_slots);
     alike(&rt, &shelf, &tape);
-    for (entry, number, place) in steps() {
+    for (entry, number, place) in answered() {
         assert_eq!(rt; answer(&mut shelf, entry), (number, place));
         assert_eq!(rt; answer(&mut tape, entry), (number, place));
         alike(&rt, &shelf, &tape);
@@ -199,7 +199,8 @@ fn with_steps(upper: i64) -> Result<Thermal, Fail> {
     })
 }
 
-fn all_day<B>(minute: i64, body: B) -> Submission<B> {
+// Of all hours of the day.
+pub(crate) fn all_day<B>(minute: i64, body: B) -> Submission<B> {
     Submission {
         minute,
         first: 1,

@@ -1,22 +1,13 @@
-use crate::scripts::mark;
+use crate::scripts::{all_day, mark};
 use entries::entry::Entry;
 use entries::lent::{enter_on_shelf, enter_on_tape};
-use ledgers::filing::{Filing, Submission};
+use ledgers::filing::Filing;
 use ledgers::verdict::Verdict;
 use ledgers::write::Write;
 
-fn submission(minute: i64, body: i64) -> Submission<i64> {
-    Submission {
-        minute,
-        first: 1,
-        last: 24,
-        body,
-    }
-}
-
 fn filing(minute: i64, body: i64, verdict: Verdict, round: i64) -> Filing<i64> {
     Filing {
-        submission: submission(minute, body),
+        submission: all_day(minute, body),
         verdict,
         round,
     }
@@ -25,13 +16,13 @@ fn filing(minute: i64, body: i64, verdict: Verdict, round: i64) -> Filing<i64> {
 fn add(unit: i64, minute: i64, body: i64) -> Entry<i64> {
     Entry::Add {
         unit,
-        submission: submission(minute, body),
+        submission: all_day(minute, body),
     }
 }
 
-// Adds and marks of two units, among them four that are refused.
 const SCRIPT_LENGTH: usize = 9;
 
+// Adds and marks of two units, among them four that are refused.
 fn script() -> [Entry<i64>; SCRIPT_LENGTH] {
     [
         add(1, 10, 100),

@@ -1,4 +1,4 @@
-use crate::asked::{admitted, held_to};
+use crate::asked::{self, admitted, held_to};
 use intermittent::Intermittent;
 use offers::body::Body;
 use offers::kind::Kind;
@@ -32,9 +32,8 @@ fn costs(rt: HostRuntime) {
     };
     assert_eq!(rt; body.top(), 200);
     assert_eq!(rt; body.start_price(), 0);
-    for (output, expected) in [(-1, 0), (0, 0), (1, -7), (200, -1_400), (201, 0)] {
-        assert_eq!(rt; body.cost(output), expected, "at {output} kW");
-    }
+    let table = [(-1, 0), (0, 0), (1, -7), (200, -1_400), (201, 0)];
+    asked::costs(&rt, &body, &table);
 }
 
 // The dearest and the cheapest hour that a book can have.
@@ -90,13 +89,7 @@ fn ceilings(rt: HostRuntime) {
         forecast: 200,
         price: 90,
     };
-    for (energy, start, expected) in [(89, 0, true), (90, 0, false), (90, -1, true)] {
-        assert_eq!(rt;
-            body.exceeds(held_to(energy, start)),
-            expected,
-            "{energy}, {start}"
-        );
-    }
+    asked::exceeds(&rt, &body, &[(89, 0, true), (90, 0, false), (90, -1, true)]);
     for (energy, price) in [(89, 89), (91, 90)] {
         let lower = Intermittent { price, ..body };
         assert_eq!(rt; body.capped(held_to(energy, 0)), lower);

@@ -41,12 +41,8 @@ fn real_time(rt: HostRuntime) {
     }
 }
 
-// What a cut gate at a minute, if there is one, says of another.
-fn cut(at: i64, minute: i64) -> Option<bool> {
-    cut_for(at, minute, 1)
-}
-
-fn cut_for(at: i64, minute: i64, hour: i64) -> Option<bool> {
+// What a cut gate at a minute, if there is one, says of another for an hour.
+fn cut(at: i64, minute: i64, hour: i64) -> Option<bool> {
     CutGate::at(at).ok().map(|gate| gate.admits(minute, hour))
 }
 
@@ -78,7 +74,7 @@ fn hours_of_a_cut(rt: HostRuntime) {
     ];
     for (minute, hour, expected) in table {
         assert_eq!(rt;
-            cut_for(-840, minute, hour),
+            cut(-840, minute, hour),
             Some(expected),
             "minute {minute}, hour {hour}"
         );
@@ -98,6 +94,6 @@ fn cuts(rt: HostRuntime) {
         (i64::MAX, 0, None),
     ];
     for (at, minute, expected) in table {
-        assert_eq!(rt; cut(at, minute), expected, "at {at}, minute {minute}");
+        assert_eq!(rt; cut(at, minute, 1), expected, "at {at}, minute {minute}");
     }
 }

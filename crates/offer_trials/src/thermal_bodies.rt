@@ -1,4 +1,4 @@
-use crate::asked::{admitted, held_to};
+use crate::asked::{self, admitted, held_to};
 use curves::steps::{Step, Steps};
 use offers::body::Body;
 use offers::kind::Kind;
@@ -164,9 +164,7 @@ fn costs(rt: HostRuntime) -> Result<(), Fail> {
         (250, 15_500_000),
         (251, 0),
     ];
-    for (output, expected) in table {
-        assert_eq!(rt; body.cost(output), expected, "at {output} kW");
-    }
+    asked::costs(&rt, &body, &table);
     assert_eq!(rt; body.start_price(), 5);
     let capped = body.capped(held_to(60_000, 4));
     assert_eq!(rt; capped.cost(180), 9_800_000);
@@ -178,13 +176,7 @@ fn costs(rt: HostRuntime) -> Result<(), Fail> {
 #[test]
 fn ceilings(rt: HostRuntime) -> Result<(), Fail> {
     let body = usual()?;
-    for (energy, start, expected) in [(70, 5, false), (69, 5, true), (70, 4, true)] {
-        assert_eq!(rt;
-            body.exceeds(held_to(energy, start)),
-            expected,
-            "{energy}, {start}"
-        );
-    }
+    asked::exceeds(&rt, &body, &[(70, 5, false), (69, 5, true), (70, 4, true)]);
     for (energy, expected) in [(70, body.cost(250)), (60, 14_000), (40, 10_000)] {
         assert_eq!(rt;
             body.capped(held_to(energy, 5)).cost(250),
@@ -268,9 +260,7 @@ fn extreme_costs(rt: HostRuntime) -> Result<(), Fail> {
         (i64::MIN, 0),
         (i64::MAX, 0),
     ];
-    for (output, expected) in table {
-        assert_eq!(rt; body.cost(output), expected, "at {output} kW");
-    }
+    asked::costs(&rt, &body, &table);
     let low = body.capped(held_to(-10_000_000, 0));
     assert_eq!(rt; low.cost(2_000_000), -20_000_000_000_000);
     assert!(rt;
