@@ -1,6 +1,6 @@
 -- Costs and capped prices of a curve, step by step.
 use Rattle.std.proofs.Common.{◌≡◌, ℕ, ◌+◌, ◌*◌, ◌<◌, ◌≤◌, true, false, ◌&&◌, List, [], ◌∷◌, length, get_or, drop, ℤ, pos, ◌+ℤ◌, ◌-ℤ◌, neg_ℤ, ◌≤ℤ◌, sym, refl, ap, ◌∙◌, arith, w64, SFits}
-use lib.IntN.{+ℤ_idl, +ℤ_idr, +ℤ_assoc}
+use lib.IntN.{+ℤ_idr, +ℤ_assoc}
 use lib.Signed.{le_z, lt_z, ≤ℤ_refl}
 use Rattle.std.specs.Int.{int_min}
 use Rattle.std.proofs.lemmas.List.{at_drop_more, at_drop_all}
@@ -8,7 +8,7 @@ use Rattle.std.proofs.lemmas.Int.{ints, clamps}
 use Rattle.std.proofs.lemmas.Bool.{and_parts, and_from, or_parts, or_from, cond-false}
 use Rattle.curves.specs.declared.steps.Step.{Step}
 use Rattle.curves.specs.Curve.{no_step, part_cost, cost_above, cost_at, capped_step, capped_steps, rises, climbs, above, last_upper}
-use Rattle.curves.specs.Fits.{PartFits, CostFits}
+use Rattle.curves.specs.Fits.{PartFits}
 use Rattle.curves.proofs.Decisions.{int_le_from, int_le_to, int_lt_to, int_lt_not, int_lt_not_to}
 use Rattle.curves.proofs.Products.{times_mono, times_high, times_low}
 

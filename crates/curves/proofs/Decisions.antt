@@ -1,8 +1,7 @@
 -- Tests on signed numbers, and numbers that go to their bits and back.
-use Rattle.std.proofs.Common.{◌≡◌, Bool, true, false, cond, ◌&&◌, ◌⊎◌, ℤ, pos, ◌≤ℤ◌, ◌<ℤ◌, refl, subst, inl, inr, arith, w64, SFits, to_z, of_z}
+use Rattle.std.proofs.Common.{◌≡◌, true, false, ℤ, ◌≤ℤ◌, ◌<ℤ◌, arith}
 use lib.Signed.{le_z, lt_z}
-use Rattle.std.proofs.lemmas.Int.{ints, to_z-of_z}
-use Rattle.std.proofs.lemmas.Bool.{and_left, and_right, cond-false}
+use Rattle.std.proofs.lemmas.Int.{ints}
 
 pub int_le_from : (a b : ℤ) → a ≤ℤ b → le_z a b ≡ true
 int_le_from a b h = grind (arith, ints)
