@@ -19,7 +19,7 @@ use Rattle.curves.proofs.Curves.{no_dearer}
 use Rattle.offers.proofs.WidestAllowed.{widest_allowed}
 
 -- the tests decide the rules
-decided : (b : Intermittent) (t : Terms) → Decides (admits b t) (Admissible b t)
+pub decided : (b : Intermittent) (t : Terms) → Decides (admits b t) (Admissible b t)
 decided b t = (
   λ h. record { forecast_low = grind (arith, ints); forecast_high = grind (arith, ints); price_low = grind (arith, ints); price_high = grind (arith, ints) },
   λ a. grind (arith, ints),

@@ -214,13 +214,15 @@ fn tops<L: Ledger<Thermal>>(rt: &impl Abort, ledger: &mut L) -> Result<(i64, i64
     let small = with_steps(250)?;
     let large = with_steps(300)?;
     let other = with_steps(400)?;
+    // A copy for each question: in a proof a body with steps is moved where it is passed.
+    let (first, second, third) = (other, other, other);
     assert!(rt; ledger.add(1, all_day(1, small)).is_ok());
     assert!(rt; ledger.add(1, all_day(2, large)).is_ok());
     assert!(rt; ledger.mark(1, 0, 2, 1).is_ok());
     Ok((
-        ledger.body(1, 0, other).top(),
-        ledger.body(1, 1, other).top(),
-        ledger.body(1, 2, other).top(),
+        ledger.body(1, 0, first).top(),
+        ledger.body(1, 1, second).top(),
+        ledger.body(1, 2, third).top(),
     ))
 }
 
