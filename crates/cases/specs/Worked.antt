@@ -1,5 +1,6 @@
 -- Worked cases, computed on the definitions that the contracts cite.
-use Rattle.std.specs.Prelude.{◌≡◌, true, false, [], ◌∷◌, ℤ, pos, neg_ℤ}
+use Rattle.std.specs.Prelude.{◌≡◌, true, false, ◌∷◌, ℤ, pos, neg_ℤ, replicate, refl}
+use Rattle.std.proofs.Common.{leb-true}
 use Rattle.gates.specs.Gates.{real_time, cut_at}
 use Rattle.curves.specs.declared.steps.Step.{Step}
 use Rattle.thermal.specs.declared.Thermal.{Thermal}
@@ -20,7 +21,11 @@ two_steps = record {
   economic_max = pos 250;
   emergency_max = pos 250;
   start_price = pos 0;
-  steps = step (pos 100) (pos 50000) ∷ (step (pos 250) (pos 70000) ∷ []);
+  steps = record {
+    places = step (pos 100) (pos 50000) ∷ (step (pos 250) (pos 70000) ∷ replicate 6 (step (pos 0) (pos 0)));
+    count = 2;
+    in_places = record { few = leb-true _ _ refl; counted = refl; rest = refl };
+  };
 }
 
 -- terms that fit it exactly

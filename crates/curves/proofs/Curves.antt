@@ -7,9 +7,13 @@ use Rattle.std.proofs.lemmas.List.{at_drop_more, at_drop_all}
 use Rattle.std.proofs.lemmas.Int.{ints, clamps}
 use Rattle.std.proofs.lemmas.Bool.{and_parts, and_from, or_parts, or_from, cond-false}
 use Rattle.curves.specs.declared.steps.Step.{Step}
+use Rattle.curves.specs.declared.steps.Steps.{Steps}
 use Rattle.curves.specs.Curve.{no_step, part_cost, cost_above, cost_at, capped_step, capped_steps, rises, climbs, above, last_upper}
 use Rattle.curves.specs.Fits.{PartFits}
+use Rattle.curves.specs.PlaceLaws.{first_capped}
+use Rattle.curves.specs.Steps.{steps_in, lowered}
 use Rattle.curves.proofs.Decisions.{int_le_from, int_le_to, int_lt_to, int_lt_not, int_lt_not_to}
+use Rattle.curves.proofs.Packing.{same_steps}
 use Rattle.curves.proofs.Products.{times_mono, times_high, times_low}
 
 -- upper kW do not fall below `lower`
@@ -99,6 +103,13 @@ capped_own e (s ∷ ss) h =
     let a : capped_step e s ≡ s = ap (λ x. record { upper = s.upper; price = x }) (lesser_own s.price e p.0) in
     let b = capped_own e ss p.1 in
     cc
+
+pub steps_lowered : (s : Steps) (e : ℤ) → steps_in (lowered s e) ≡ capped_steps e (steps_in s)
+steps_lowered s e = first_capped s.places s.count e _ s.in_places
+
+-- so in their places too
+pub lowered_own : (s : Steps) (e : ℤ) → above e (steps_in s) ≡ false → lowered s e ≡ s
+lowered_own s e h = same_steps (lowered s e) s (steps_lowered s e ∙ capped_own e (steps_in s) h)
 
 -- the most that a step adds to a cost, either way
 abbrev pub most_part : ℕ

@@ -1,9 +1,9 @@
 ghost use Rattle.std.specs.Prelude.{◌≡◌, ◌<◌, ◌≤◌, length, pos, MatchOption};
 ghost use Rattle.curves.specs.Curve.{rises, climbs, above, last_upper, capped_steps};
+ghost use Rattle.curves.specs.Places.{packed, Packed};
 ghost use Rattle.curves.specs.Priced.{priceable, step_cost};
 
 use crate::curve::{cap_each, cost_at};
-use std::marker::Model;
 
 // A step of an offer: its power up to `upper` kW, at `price` centavos per MWh.
 #[derive(Clone, Copy)]
@@ -26,28 +26,15 @@ const MOST_PRICE: i64 = 10_000_000;
 pub struct Steps {
     places: [Step; PLACES],
     count: usize,
-}
-
-impl Model for Steps {
-    ghost use Rattle.std.specs.Prelude.{List, length, take};
-    ghost use Rattle.curves.specs.declared.steps.Step.{Step};
-    ghost use Rattle.curves.specs.Places.{packed, Packed};
-
-    ghost Value = { List Step };
-
-    ghost view = { λ s. take s.count s.places };
-
-    ghost invariant = { λ s. Packed s.places s.count };
-
-    ghost inverse = { λ ss. record { places = packed ss; count = length ss } };
-
-    ghost inverse_ok = { λ s h i. record { places = h.rest i; count = h.counted i } };
+    pub ghost in_places: { Packed places count },
 }
 
 impl Steps {
+    ghost use Rattle.curves.specs.Steps.{steps_in, lowered};
+
     // These steps, if there is room for them: one cause of refusal, and no error type for a `TryFrom`.
     pub fn of(steps: &[Step]) -> Option<Steps>
-        ensures { MatchOption result (8 < length steps.now) (λ s. s ≡ steps.now) }
+        ensures { MatchOption result (8 < length steps.now) (λ s. (s.places ≡ packed steps.now) × (steps_in s ≡ steps.now)) }
     {
         if steps.len() > PLACES {
             return None;
@@ -62,14 +49,14 @@ impl Steps {
 
     // The steps.
     pub fn used(&self) -> &[Step]
-        ensures { result.now ≡ self.now }
+        ensures { result.now ≡ steps_in self.now }
     {
         &self.places[..self.count]
     }
 
     // How many steps there are.
     pub fn count(&self) -> usize
-        ensures value { result ≡ length self.now }
+        ensures value { result ≡ length (steps_in self.now) }
         ensures few { result ≤ 8 }
     {
         self.count
@@ -77,7 +64,7 @@ impl Steps {
 
     // Whether upper kW rise strictly, from at least 1.
     pub fn is_rising(&self) -> bool
-        ensures { result ≡ rises (pos 0) self.now }
+        ensures { result ≡ rises (pos 0) (steps_in self.now) }
     {
         let steps = self.used();
         steps.first().is_none_or(|s| 0 < s.upper) && steps.is_sorted_by(|a, b| a.upper < b.upper)
@@ -85,7 +72,7 @@ impl Steps {
 
     // Whether prices never fall, from at least the floor.
     pub fn is_climbing(&self, floor: i64) -> bool
-        ensures { result ≡ climbs floor self.now }
+        ensures { result ≡ climbs floor (steps_in self.now) }
     {
         let steps = self.used();
         steps.first().is_none_or(|s| floor <= s.price)
@@ -94,21 +81,21 @@ impl Steps {
 
     // Whether some price is above the ceiling.
     pub fn is_above(&self, ceiling: i64) -> bool
-        ensures { result ≡ above ceiling self.now }
+        ensures { result ≡ above ceiling (steps_in self.now) }
     {
         self.used().iter().any(|s| s.price > ceiling)
     }
 
     // The last upper kW, or 0.
     pub fn last_upper(&self) -> i64
-        ensures { result ≡ last_upper (pos 0) self.now }
+        ensures { result ≡ last_upper (pos 0) (steps_in self.now) }
     {
         self.used().last().map_or(0, |s| s.upper)
     }
 
     // The cost of one hour at an output from 0 to 2,000,000 kW, of steps that some book could admit; else 0.
     pub fn cost(&self, output: i64) -> i64
-        ensures { result ≡ step_cost self.now output }
+        ensures { result ≡ step_cost (steps_in self.now) output }
     {
         if self.is_priceable() && (0..=MOST_OUTPUT).contains(&output) {
             cost_at(self.used(), output)
@@ -118,7 +105,7 @@ impl Steps {
     }
 
     fn is_priceable(&self) -> bool
-        ensures { result ≡ priceable self.now }
+        ensures { result ≡ priceable (steps_in self.now) }
     {
         // `priceable` asks for it, and the type holds it.
         prove!(self.count <= PLACES);
@@ -127,7 +114,8 @@ impl Steps {
 
     // Each price the lesser of itself and the ceiling.
     pub fn capped(&self, ceiling: i64) -> Steps
-        ensures { result ≡ capped_steps ceiling self.now }
+        ensures list { steps_in result ≡ capped_steps ceiling (steps_in self.now) }
+        ensures all { result ≡ lowered self.now ceiling }
     {
         let mut places = self.places;
         cap_each(&mut places[..self.count], ceiling);

@@ -12,7 +12,7 @@ use tapes::tape::Tape;
 use thermal::Thermal;
 
 // What an add or a mark answers: the number of its refusal, or 0 and the place.
-fn answer<B: Copy, L: Ledger<B>>(ledger: &mut L, entry: Entry<B>) -> (u32, i64) {
+pub(crate) fn answer<B: Copy, L: Ledger<B>>(ledger: &mut L, entry: Entry<B>) -> (u32, i64) {
     let told = match entry {
         Entry::Add { unit, submission } => ledger.add(unit, submission),
         Entry::Mark {
@@ -74,7 +74,7 @@ pub(crate) fn mark(unit: i64, place: i64, verdict: i64, round: i64) -> Entry<i64
     }
 }
 
-const OLD: Filing<i64> = Filing {
+pub(crate) const OLD: Filing<i64> = Filing {
     submission: Submission {
         minute: 900,
         first: 90,
@@ -85,7 +85,7 @@ const OLD: Filing<i64> = Filing {
     round: 5,
 };
 
-const OLD_WRITE: Write<i64> = Write {
+pub(crate) const OLD_WRITE: Write<i64> = Write {
     unit: 0,
     place: 0,
     filing: OLD,
@@ -94,7 +94,7 @@ const OLD_WRITE: Write<i64> = Write {
 const ENTRIES: usize = 32;
 
 // Entries with the number and the place that each is answered: two units of three places each.
-fn answered() -> [(Entry<i64>, u32, i64); ENTRIES] {
+pub(crate) fn answered() -> [(Entry<i64>, u32, i64); ENTRIES] {
     [
         (add(-1, 1, 10), 6, -1),
         (add(2, 1, 10), 6, -1),
@@ -214,15 +214,13 @@ fn tops<L: Ledger<Thermal>>(rt: &impl Abort, ledger: &mut L) -> Result<(i64, i64
     let small = with_steps(250)?;
     let large = with_steps(300)?;
     let other = with_steps(400)?;
-    // A copy for each question: in a proof a body with steps is moved where it is passed.
-    let (first, second, third) = (other, other, other);
     assert!(rt; ledger.add(1, all_day(1, small)).is_ok());
     assert!(rt; ledger.add(1, all_day(2, large)).is_ok());
     assert!(rt; ledger.mark(1, 0, 2, 1).is_ok());
     Ok((
-        ledger.body(1, 0, first).top(),
-        ledger.body(1, 1, second).top(),
-        ledger.body(1, 2, third).top(),
+        ledger.body(1, 0, other).top(),
+        ledger.body(1, 1, other).top(),
+        ledger.body(1, 2, other).top(),
     ))
 }
 

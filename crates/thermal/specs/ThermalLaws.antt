@@ -14,9 +14,10 @@ use Rattle.std.proofs.lemmas.Int.{ints, clamps}
 use Rattle.std.proofs.lemmas.Bool.{and_parts, and_from, or_from, or_parts, cond-true, not-true, not_from_false}
 use Rattle.std.proofs.lemmas.Bool.Decides.{Decides-int_eq, Decides-not, not_from_Decides}
 use Rattle.thermal.specs.declared.Thermal.{Thermal}
-use Rattle.curves.specs.Curve.{capped_steps, above, climbs, rises, last_upper}
+use Rattle.curves.specs.Curve.{above, climbs, rises, last_upper}
+use Rattle.curves.specs.Steps.{steps_in, lowered}
 use Rattle.thermal.specs.Thermals.{Status, Economic, Emergency, Start, Admissible, good_status, good_economic, good_limits, good_emergency_min, good_emergency_max, good_start, good_steps, admits, capped_body, meaning, written}
-use Rattle.curves.proofs.Curves.{no_dearer, above_capped, above_lower, above_wider, lesser_own, rises_grows, rises_capped, last_capped, climbs_capped, climbs_wider, capped_own}
+use Rattle.curves.proofs.Curves.{no_dearer, above_capped, above_lower, above_wider, lesser_own, rises_grows, rises_capped, last_capped, climbs_capped, climbs_wider, steps_lowered, lowered_own}
 use Rattle.curves.specs.Priced.{step_cost}
 use Rattle.curves.proofs.Decisions.{int_le_from, int_lt_not}
 use Rattle.curves.proofs.Priced.{cost_told}
@@ -29,12 +30,12 @@ pub record Passed (b : Thermal) (t : Terms) : Type 0 where
   pub economic : Economic b
   pub emergency : Emergency b t.maximum
   pub start : Start b
-  pub some : 1 ≤ length b.steps
-  pub few : length b.steps ≤ 8
-  pub rising : rises (pos 0) b.steps ≡ true
-  pub last : last_upper (pos 0) b.steps ≡ b.economic_max
-  pub climbing : climbs t.floor b.steps ≡ true
-  pub below : above t.cap b.steps ≡ false
+  pub some : 1 ≤ length (steps_in b.steps)
+  pub few : length (steps_in b.steps) ≤ 8
+  pub rising : rises (pos 0) (steps_in b.steps) ≡ true
+  pub last : last_upper (pos 0) (steps_in b.steps) ≡ b.economic_max
+  pub climbing : climbs t.floor (steps_in b.steps) ≡ true
+  pub below : above t.cap (steps_in b.steps) ≡ false
 
 steps_good : (b : Thermal) (t : Terms) → admits b t ≡ true → good_steps b t.floor t.cap ≡ true
 steps_good b t h =
@@ -44,7 +45,7 @@ steps_good b t h =
 
 pub parts : (b : Thermal) (t : Terms) → admits b t ≡ true → Passed b t
 parts b t h =
-    let ss = b.steps in
+    let ss = steps_in b.steps in
     let counted = nat_le 1 (length ss) && nat_le (length ss) 8 in
     let priced = climbs t.floor ss && not (above t.cap ss) in
     let p = and_parts counted (rises (pos 0) ss && (int_eq (last_upper (pos 0) ss) b.economic_max && priced)) (steps_good b t h) in
@@ -85,7 +86,7 @@ whole b t h =
 -- the tests decide the rules
 pub decided : (b : Thermal) (t : Terms) → Decides (admits b t) (Admissible b t)
 decided b t =
-    let ss = b.steps in (
+    let ss = steps_in b.steps in (
       (λ h. (let a = parts b t h in record {
         status = a.status;
         economic = a.economic;
@@ -118,7 +119,7 @@ widest : (b : Thermal) (t : Terms) → Allowed t → admits b t ≡ true → adm
 widest b t l h =
     let a = parts b t h in
     let e = a.emergency in
-    let ss = b.steps in
+    let ss = steps_in b.steps in
     whole b widest_terms (record {
       status = a.status;
       economic = a.economic;
@@ -133,11 +134,11 @@ widest b t l h =
     })
 
 -- a body that some book admits has the cost that its steps tell
-pub cost_is : (b : Thermal) (q : ℤ) → possible written b ≡ true → pos 0 ≤ℤ q → q ≤ℤ b.economic_max → step_cost b.steps q ≡ meaning.cost b q
+pub cost_is : (b : Thermal) (q : ℤ) → possible written b ≡ true → pos 0 ≤ℤ q → q ≤ℤ b.economic_max → step_cost (steps_in b.steps) q ≡ meaning.cost b q
 cost_is b q h low high =
     let a = parts b widest_terms h in
     let t = and_from (possible written b) (int_le (pos 0) q && int_le q b.economic_max) h (and_from _ _ (int_le_from _ _ low) (int_le_from _ _ high)) in
-    cost_told b.steps q a.few a.rising a.climbing a.below low (omega (arith, ints)) ∙ sym (cond-true _ _ _ t)
+    cost_told (steps_in b.steps) q a.few a.rising a.climbing a.below low (omega (arith, ints)) ∙ sym (cond-true _ _ _ t)
 
 pub rules : Rules written Admissible
 rules = record { decides = decided; widest = widest; allowed = widest_allowed }
@@ -148,8 +149,9 @@ module _ (b : Thermal) (t : Terms) (c : Ceilings) (h : Filed written b t c) wher
       let a = parts b t h.admitted in
       let start = a.start in
       let k = h.bring in
-      let ss = b.steps in
-      let many = curve_laws.capped_count c.energy ss in
+      let ss = steps_in b.steps in
+      let w = steps_lowered b.steps c.energy in
+      let many = ap length w ∙ curve_laws.capped_count c.energy ss in
       whole (capped_body b c) t (record {
         status = record { low = a.status.low; high = a.status.high };
         economic = record { low = a.economic.low; ordered = a.economic.ordered };
@@ -157,29 +159,30 @@ module _ (b : Thermal) (t : Terms) (c : Ceilings) (h : Filed written b t c) wher
         start = record { low = omega (arith, ints, clamps); high = omega (arith, ints, clamps) };
         some = rw many a.some;
         few = rw many a.few;
-        rising = rises_capped (pos 0) c.energy ss ∙ a.rising;
-        last = last_capped (pos 0) c.energy ss ∙ a.last;
-        climbing = climbs_capped t.floor t.floor c.energy ss a.climbing (≤ℤ_refl t.floor) k.energy_low;
-        below = above_lower c.energy t.cap ss a.below;
+        rising = ap (rises (pos 0)) w ∙ rises_capped (pos 0) c.energy ss ∙ a.rising;
+        last = ap (last_upper (pos 0)) w ∙ last_capped (pos 0) c.energy ss ∙ a.last;
+        climbing = ap (climbs t.floor) w ∙ climbs_capped t.floor t.floor c.energy ss a.climbing (≤ℤ_refl t.floor) k.energy_low;
+        below = ap (above t.cap) w ∙ above_lower c.energy t.cap ss a.below;
       })
 
   none : written.exceeds (capped_body b c) c ≡ false
   none =
       let p : int_min b.start_price c.start ≤ℤ c.start = omega (arith, ints, clamps) in
-      or_from _ _ (above_capped c.energy b.steps) (int_lt_not _ _ p)
+      or_from _ _ (ap (above c.energy) (steps_lowered b.steps c.energy) ∙ above_capped c.energy (steps_in b.steps)) (int_lt_not _ _ p)
 
   less : (q : ℤ) → written.cost (capped_body b c) q ≤ℤ written.cost b q
   less q =
       let a = parts b t h.admitted in
-      no_dearer q (pos 0) c.energy b.steps (rises_grows (pos 0) b.steps a.rising)
+      let ss = steps_in b.steps in
+      rw (steps_lowered b.steps c.energy) (no_dearer q (pos 0) c.energy ss (rises_grows (pos 0) ss a.rising))
 
 -- where no price is above its ceiling, capping changes nothing
 own : (b : Thermal) (c : Ceilings) → written.exceeds b c ≡ false → capped_body b c ≡ b
 own b c x =
-    let y = or_parts (above c.energy b.steps) (int_lt c.start b.start_price) x in
-    let u : capped_steps c.energy b.steps ≡ b.steps = capped_own c.energy b.steps y.0 in
+    let y = or_parts (above c.energy (steps_in b.steps)) (int_lt c.start b.start_price) x in
+    let u : lowered b.steps c.energy ≡ b.steps = lowered_own b.steps c.energy y.0 in
     let v : int_min b.start_price c.start ≡ b.start_price = lesser_own b.start_price c.start y.1 in
-    ap (λ p. record b { start_price = p; steps = capped_steps c.energy b.steps }) v ∙ ap (λ l. record b { steps = l }) u
+    ap (λ p. record b { start_price = p; steps = lowered b.steps c.energy }) v ∙ ap (λ l. record b { steps = l }) u
 
 pub capping : Capping written
 capping = record {

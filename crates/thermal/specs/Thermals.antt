@@ -7,7 +7,8 @@ use Rattle.offers.specs.Meaning.{Meaning}
 use Rattle.std.specs.Int.{int_min}
 use Rattle.std.specs.Ordering.{int_eq}
 use Rattle.thermal.specs.declared.Thermal.{Thermal}
-use Rattle.curves.specs.Curve.{Rising, Climbing, Above, upper_at, capped_steps, rises, climbs, above, last_upper, cost_at}
+use Rattle.curves.specs.Curve.{Rising, Climbing, Above, upper_at, rises, climbs, above, last_upper, cost_at}
+use Rattle.curves.specs.Steps.{steps_in, lowered}
 
 -- 0 not available, 1 economic, 2 must-run
 pub record Status (b : Thermal) : Type 0 where
@@ -33,12 +34,12 @@ pub record Start (b : Thermal) : Type 0 where
 
 -- 1 to 8 steps that rise to the economic maximum, at prices that never fall, from floor to cap
 pub record StepRules (b : Thermal) (floor cap : ℤ) : Type 0 where
-  pub some : 1 ≤ length b.steps
-  pub few : length b.steps ≤ 8
-  pub rising : Rising b.steps
-  pub last : upper_at b.steps (length b.steps - 1) ≡ b.economic_max
-  pub climbing : Climbing floor b.steps
-  pub below : Above cap b.steps → ⊥
+  pub some : 1 ≤ length (steps_in b.steps)
+  pub few : length (steps_in b.steps) ≤ 8
+  pub rising : Rising (steps_in b.steps)
+  pub last : upper_at (steps_in b.steps) (length (steps_in b.steps) - 1) ≡ b.economic_max
+  pub climbing : Climbing floor (steps_in b.steps)
+  pub below : Above cap (steps_in b.steps) → ⊥
 
 -- the rules of admission
 pub record Admissible (b : Thermal) (t : Terms) : Type 0 where
@@ -69,24 +70,24 @@ good_start b = int_le (pos 0) b.start_price && int_le b.start_price (pos 1000000
 
 abbrev pub good_steps : Thermal → ℤ → ℤ → Bool
 good_steps b floor cap =
-    (nat_le 1 (length b.steps) && nat_le (length b.steps) 8)
-    && (rises (pos 0) b.steps && (int_eq (last_upper (pos 0) b.steps) b.economic_max && (climbs floor b.steps && not (above cap b.steps))))
+    (nat_le 1 (length (steps_in b.steps)) && nat_le (length (steps_in b.steps)) 8)
+    && (rises (pos 0) (steps_in b.steps) && (int_eq (last_upper (pos 0) (steps_in b.steps)) b.economic_max && (climbs floor (steps_in b.steps) && not (above cap (steps_in b.steps)))))
 
 abbrev pub admits : Thermal → Terms → Bool
 admits b t = good_status b && (good_limits b t.maximum && (good_start b && good_steps b t.floor t.cap))
 
 -- each price the lesser of itself and its ceiling
 abbrev pub capped_body : Thermal → Ceilings → Thermal
-capped_body b c = record b { start_price = int_min b.start_price c.start; steps = capped_steps c.energy b.steps }
+capped_body b c = record b { start_price = int_min b.start_price c.start; steps = lowered b.steps c.energy }
 
 -- what a body says by itself: top is the economic maximum
 abbrev pub written : Meaning Thermal
 written = record {
   admits = admits;
   top = λ b. b.economic_max;
-  cost = λ b q. cost_at q b.steps;
+  cost = λ b q. cost_at q (steps_in b.steps);
   start = λ b. b.start_price;
-  exceeds = λ b c. above c.energy b.steps || int_lt c.start b.start_price;
+  exceeds = λ b c. above c.energy (steps_in b.steps) || int_lt c.start b.start_price;
   capped = capped_body;
 }
 
