@@ -7,3 +7,5 @@ mod scripts;
 mod sizes;
 #[cfg(test)]
 mod slots;
+#[cfg(test)]
+mod views;

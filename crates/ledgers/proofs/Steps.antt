@@ -6,6 +6,7 @@ use Rattle.std.specs.List.{slice_get}
 use Rattle.refusals.specs.declared.ledger.LedgerRefusal.{LedgerRefusal}
 use Rattle.refusals.specs.declared.ledger.LedgerRefusal.TheVariants.{UnknownUnit, ListFull, NotMarkable}
 use Rattle.ledgers.specs.declared.filing.Filing.{Filing}
+use Rattle.ledgers.specs.declared.verdict.Verdict.{Verdict}
 use Rattle.ledgers.specs.declared.verdict.Verdict.TheVariants.{Consistent, Capped, PassedOver}
 use Rattle.ledgers.specs.declared.write.Write.{Write}
 use Rattle.ledgers.specs.Verdicts.{waits, judgement}
@@ -72,6 +73,14 @@ module _ {B : Type 0} where
   as_judged f g (negsuc n) r e = clash cc
   as_judged f g (pos n) r e = by_number f g r (eqb n 1) (eqb n 2) (eqb n 3) e
 
+  -- and its submission is kept
+  kept : (f g : Filing B) (o : Option Verdict) (r : ℤ) → Some g ≡ judged_as f o r → g.submission ≡ f.submission
+  kept f g None r e = clash cc
+  kept f g (Some v) r e = let is : g ≡ record { submission = f.submission; verdict = v; round = r } = cc in ap (λ x. x.submission) is
+
+  some_is : (f g : Filing B) → Some f ≡ Some g → f ≡ g
+  some_is f g e = cc
+
   -- what is known of a write that an add or a mark makes
   add_so : (h : Held B) (o : Option ℕ) (f : Filing B) (w : Write B) → Ok w ≡ given o UnknownUnit (λ u. cond (ltb (length (h.list u)) h.places) (Ok (record { unit = u; place = length (h.list u); filing = f })) (Err ListFull)) → (Some w.unit ≡ o) × (w.place ≡ length (h.list w.unit)) × (w.place < h.places) × (w.filing ≡ f)
   add_so h None f w e = clash cc
@@ -98,6 +107,7 @@ module _ {B : Type 0} where
         room = t.2;
         within = omega (arith, t.1);
         one = ap (λ n. made (put fs n w.filing)) t.1 ∙ made_end fs w.filing still;
+        same = λ g at. absurd (omega (arith, t.1, slice_get_within fs w.place g (sym at)));
       }
 
   pub add_after : (h : Held B) (x : ℤ) (f : Filing B) (w : Write B) → Ok w ≡ add_of h x f → written h w ≡ after_add h (add_of h x f)
@@ -139,6 +149,7 @@ module _ {B : Type 0} where
         room = omega (arith, m.inside, limits.short w.unit);
         within = omega (arith, m.inside);
         one = made_mark fs w.place m.old w.filing m.there b.0 (as_judged m.old w.filing v r b.1);
+        same = λ g at. kept m.old w.filing (judgement v) r b.1 ∙ ap (λ x. x.submission) (some_is m.old g (m.there ∙ sym at));
       }
 
   pub mark_after : (h : Held B) (x y v r : ℤ) (w : Write B) → Ok w ≡ mark_of h x y v r → written h w ≡ after_mark h (mark_of h x y v r)

@@ -1,5 +1,6 @@
 -- What a write does to a list, and which writes can come next.
-use Rattle.std.specs.Prelude.{◌≡◌, ℕ, zero, suc, ◌+◌, ◌<◌, ◌≤◌, cond, List, [], ◌∷◌, length}
+use Rattle.std.specs.Prelude.{◌≡◌, ℕ, zero, suc, ◌+◌, ◌<◌, ◌≤◌, cond, List, [], ◌∷◌, length, Some}
+use Rattle.std.specs.List.{slice_get}
 use Rattle.ledgers.specs.declared.filing.Filing.{Filing}
 use Rattle.ledgers.specs.declared.write.Write.{Write}
 use Rattle.ledgers.specs.Held.{Held}
@@ -22,9 +23,10 @@ module _ {B : Type 0} where
   made [] = 0
   made (f ∷ fs) = cond (waits f.verdict) 1 2 + made fs
 
-  -- the write is one that can come next: at a place of a known unit or behind its last, and it adds a filing or ends its waiting
+  -- the write is one that can come next: at a place of a known unit or behind its last, and it adds a filing or ends the waiting of one, whose submission it keeps
   pub record Fits (h : Held B) (w : Write B) : Type 0 where
     pub known : w.unit < h.units
     pub room : w.place < h.places
     pub within : w.place ≤ length (h.list w.unit)
     pub one : made (put (h.list w.unit) w.place w.filing) ≡ made (h.list w.unit) + 1
+    pub same : (f : Filing B) → Some f ≡ slice_get (h.list w.unit) w.place → w.filing.submission ≡ f.submission

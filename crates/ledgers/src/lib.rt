@@ -4,6 +4,7 @@
 pub mod filing;
 pub mod ledger;
 pub mod lengths;
+pub mod lists;
 pub mod number;
 pub mod size;
 pub mod store;

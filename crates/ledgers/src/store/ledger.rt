@@ -3,9 +3,9 @@ ghost use Rattle.ledgers.specs.Writes.{waiting, add_of, place_in, after_add, Wro
 
 use crate::filing::{Filing, Submission};
 use crate::ledger::Ledger;
-use crate::number::below;
-use crate::store::Store;
-use crate::store::decisions::{add_in, filing_in, mark_in};
+use crate::lists::questions::{body_in, head_in, length_in, places_in, units_in};
+use crate::lists::writes::{add_in, mark_in};
+use crate::store::{Accepted, Store};
 use refusals::ledger::LedgerRefusal;
 
 impl<B: Copy, S: Store<B>> Ledger<B> for S {
@@ -16,32 +16,32 @@ impl<B: Copy, S: Store<B>> Ledger<B> for S {
     ghost bounded = { S.limits };
 
     fn units(&self) -> i64 {
-        self.unit_count() as i64
+        units_in(self)
     }
 
     fn places(&self) -> i64 {
-        self.place_count() as i64
+        places_in(self)
     }
 
     fn length(&self, unit: i64) -> i64 {
-        below(unit, self.unit_count()).map_or(0, |u| self.list_length(u) as i64)
+        length_in(self, unit)
     }
 
     fn head(&self, unit: i64, place: i64) -> Option<Filing<()>> {
-        filing_in(self, unit, place).map(|f| f.head())
+        head_in(self, unit, place)
     }
 
     fn body(&self, unit: i64, place: i64, other: B) -> B {
-        filing_in(self, unit, place).map_or(other, |f| f.submission.body)
+        body_in(self, unit, place, other)
     }
 
     fn add(&mut self, unit: i64, submission: Submission<B>) -> Result<i64, LedgerRefusal>
-        ensures answer { result ≡ place_in (add_of (S.Store.holds self.old) unit (waiting submission)) }
-        ensures after { S.Store.holds self.new ≡ after_add (S.Store.holds self.old) (add_of (S.Store.holds self.old) unit (waiting submission)) }
-        ensures wrote { Wrote S.Store.changes self.old (add_of (S.Store.holds self.old) unit (waiting submission)) self.new }
+        ensures answer { result ≡ place_in (add_of (S.Lists.holds self.old) unit (waiting submission)) }
+        ensures after { S.Lists.holds self.new ≡ after_add (S.Lists.holds self.old) (add_of (S.Lists.holds self.old) unit (waiting submission)) }
+        ensures wrote { Wrote S.Store.changes self.old (add_of (S.Lists.holds self.old) unit (waiting submission)) self.new }
     {
         let w = add_in(self, unit, Filing::waiting(submission))?;
-        self.write(w);
+        self.write(&Accepted { write: w });
         Ok(w.place as i64)
     }
 
@@ -53,7 +53,7 @@ impl<B: Copy, S: Store<B>> Ledger<B> for S {
         round: i64,
     ) -> Result<(), LedgerRefusal> {
         let w = mark_in(self, unit, place, verdict, round)?;
-        self.write(w);
+        self.write(&Accepted { write: w });
         Ok(())
     }
 }

@@ -4,17 +4,15 @@ ghost use Rattle.shelves.specs.Shelves.{shelved, shelf_writes, shelf_bounded};
 
 use crate::shelf::Shelf;
 use ledgers::filing::Filing;
-use ledgers::store::Store;
-use ledgers::write::Write;
+use ledgers::lists::Lists;
+use ledgers::store::{Accepted, Store};
 
-impl<'a, B: Copy> Store<B> for Shelf<'a, B> {
+impl<'a, B: Copy> Lists<B> for Shelf<'a, B> {
     ghost holds = { shelved };
-
-    ghost changes = { shelf_writes };
 
     ghost limits = { shelf_bounded };
 
-    // These three stand in each store, since one of another make may count otherwise.
+    // These three stand in each ledger, since one of another make may count otherwise.
     fn unit_count(&self) -> usize {
         self.lengths.units()
     }
@@ -35,12 +33,17 @@ impl<'a, B: Copy> Store<B> for Shelf<'a, B> {
         }
         None
     }
+}
 
-    fn write(&mut self, w: Write<B>)
-        requires { Fits (shelved self.old) w }
-        ensures after { shelved self.new ≡ written (shelved self.old) w }
-        ensures wrote { shelf_writes self.old w self.new }
+impl<'a, B: Copy> Store<B> for Shelf<'a, B> {
+    ghost changes = { shelf_writes };
+
+    fn write(&mut self, accepted: &Accepted<B>)
+        requires { Fits (shelved self.old) accepted.now.write }
+        ensures after { shelved self.new ≡ written (shelved self.old) accepted.now.write }
+        ensures wrote { shelf_writes self.old accepted.now.write self.new }
     {
+        let w = accepted.write();
         let i = self.lengths.index(w.unit, w.place);
         self.lengths.count(w.unit, w.place);
         self.slots[i] = w.filing;

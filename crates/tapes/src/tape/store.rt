@@ -4,17 +4,15 @@ ghost use Rattle.tapes.specs.Tapes.{taped, tape_writes, tape_bounded};
 
 use crate::tape::Tape;
 use ledgers::filing::Filing;
-use ledgers::store::Store;
-use ledgers::write::Write;
+use ledgers::lists::Lists;
+use ledgers::store::{Accepted, Store};
 
-impl<'a, B: Copy> Store<B> for Tape<'a, B> {
+impl<'a, B: Copy> Lists<B> for Tape<'a, B> {
     ghost holds = { taped };
-
-    ghost changes = { tape_writes };
 
     ghost limits = { tape_bounded };
 
-    // These three stand in each store, since one of another make may count otherwise.
+    // These three stand in each ledger, since one of another make may count otherwise.
     fn unit_count(&self) -> usize {
         self.lengths.units()
     }
@@ -32,13 +30,18 @@ impl<'a, B: Copy> Store<B> for Tape<'a, B> {
         let slots = &*self.slots;
         Some(slots[i].filing)
     }
+}
+
+impl<'a, B: Copy> Store<B> for Tape<'a, B> {
+    ghost changes = { tape_writes };
 
     // Writes into the next slot. There is one for every write that can come.
-    fn write(&mut self, w: Write<B>)
-        requires { Fits (taped self.old) w }
-        ensures after { taped self.new ≡ written (taped self.old) w }
-        ensures wrote { tape_writes self.old w self.new }
+    fn write(&mut self, accepted: &Accepted<B>)
+        requires { Fits (taped self.old) accepted.now.write }
+        ensures after { taped self.new ≡ written (taped self.old) accepted.now.write }
+        ensures wrote { tape_writes self.old accepted.now.write self.new }
     {
+        let w = accepted.write();
         let k = self.lengths.index(w.unit, w.place);
         let i = self.used;
         self.slots[i] = w;

@@ -6,16 +6,17 @@ use Rattle.ledgers.proofs.store.ledger.AnyLedger.mark.Goals as goal
 
 pub write-requires : goal.write-requires
 write-requires g c =
-    let s = c.args.self.now in
+    let h = g.S.Lists.holds c.args.self.now in
     let fu : SFits w64 c.args.unit = c.ranges.unit in
     let fp : SFits w64 c.args.place = c.ranges.place in
     let fv : SFits w64 c.args.verdict = c.ranges.verdict in
     let fr : SFits w64 c.args.round = c.ranges.round in
-    mark_fits (g.S.Store.holds s) c.args.unit c.args.place c.args.verdict c.args.round c.in_ok-w.w (simp to_z-of_z at c.in_ok-w.ensures) (g.S.Store.limits s)
+    let is : Ok c.in_ok-w.w ≡ mark_of h c.args.unit c.args.place c.args.verdict c.args.round = simp to_z-of_z at c.in_ok-w.ensures in
+    mark_fits h c.args.unit c.args.place c.args.verdict c.args.round c.in_ok-w.w is (g.S.Lists.limits c.args.self.now)
 
 pub returns-clause-after : goal.returns-clause-after
 returns-clause-after g c =
-    let h = g.S.Store.holds c.args.self.now in
+    let h = g.S.Lists.holds c.args.self.now in
     let fu : SFits w64 c.args.unit = c.ranges.unit in
     let fp : SFits w64 c.args.place = c.ranges.place in
     let fv : SFits w64 c.args.verdict = c.ranges.verdict in

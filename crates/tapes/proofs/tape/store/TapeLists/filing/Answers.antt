@@ -1,7 +1,7 @@
 use Rattle.std.proofs.Common.{◌≡◌, ◌<◌, length, get_or, take, Some, sym, ap, ◌∙◌, arith, get_or-take}
 use Rattle.tapes.proofs.Slots.{filing_at_lem, filing_none}
 use Rattle.tapes.proofs.Tapes.{used_within}
-use Rattle.tapes.proofs.tape.store.TapeStore.filing.Goals as goal
+use Rattle.tapes.proofs.tape.store.TapeLists.filing.Goals as goal
 
 pub returns-in_err-i : goal.returns-in_err-i
 returns-in_err-i g c =

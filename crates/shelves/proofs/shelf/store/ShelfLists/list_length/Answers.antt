@@ -1,6 +1,6 @@
 use Rattle.std.proofs.Common.{◌∙◌, sym}
 use Rattle.ledgers.proofs.Rows.{row_count}
-use Rattle.shelves.proofs.shelf.store.ShelfStore.list_length.Goals as goal
+use Rattle.shelves.proofs.shelf.store.ShelfLists.list_length.Goals as goal
 
 pub returns : goal.returns
 returns g c =
