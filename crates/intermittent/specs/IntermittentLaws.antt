@@ -29,11 +29,15 @@ widest : (b : Intermittent) (t : Terms) → Allowed t → admits b t ≡ true �
 widest b t l h = grind (arith, ints)
 
 -- the one step's part of an output is all of it
+pub own_cost : (b : Intermittent) (q : ℤ) → pos 0 ≤ℤ q → q ≤ℤ b.forecast → (q *ℤ b.price) ≡ written.cost b q
+own_cost b q low high =
+    let w : int_min q b.forecast -ℤ int_min q (pos 0) ≡ q = omega (arith, ints, clamps) in
+    sym (+ℤ_idr _ ∙ ap (λ x. x *ℤ b.price) w)
+
 pub cost_is : (b : Intermittent) (q : ℤ) → possible written b ≡ true → pos 0 ≤ℤ q → q ≤ℤ b.forecast → (q *ℤ b.price) ≡ meaning.cost b q
 cost_is b q h low high =
     let t = and_from (possible written b) (int_le (pos 0) q && int_le q b.forecast) h (and_from _ _ (int_le_from _ _ low) (int_le_from _ _ high)) in
-    let w : int_min q b.forecast -ℤ int_min q (pos 0) ≡ q = omega (arith, ints, clamps) in
-    sym (cond-true _ _ _ t ∙ +ℤ_idr _ ∙ ap (λ x. x *ℤ b.price) w)
+    own_cost b q low high ∙ sym (cond-true _ _ _ t)
 
 pub rules : Rules written Admissible
 rules = record { decides = decided; widest = widest; allowed = widest_allowed }

@@ -47,7 +47,8 @@ impl Body for Intermittent {
     }
 
     fn hour_cost(&self, output: i64) -> i64 {
-        output * self.price
+        // Of a body that some book admits, the product fits.
+        output.saturating_mul(self.price)
     }
 
     fn start(&self) -> i64 {

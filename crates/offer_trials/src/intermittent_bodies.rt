@@ -52,6 +52,23 @@ fn extreme_costs(rt: HostRuntime) {
     }
 }
 
+// An hour's cost may be asked of any figures, and is told where some book admits the body.
+#[test]
+fn hour_costs(rt: HostRuntime) {
+    for figure in [i64::MIN, -1, 0, i64::MAX] {
+        let body = Intermittent {
+            forecast: figure,
+            price: figure,
+        };
+        let _any = body.hour_cost(i64::MAX);
+    }
+    let body = Intermittent {
+        forecast: 200,
+        price: -7,
+    };
+    assert_eq!(rt; body.hour_cost(200), -1_400);
+}
+
 #[test]
 fn no_book_admits(rt: HostRuntime) {
     let ceilings = held_to(0, -1);

@@ -28,6 +28,10 @@ module _ {B : Type 0} (F : Meaning B) (Keeps : B → Terms → Type 0) (R : Rule
     still : possible F (F.capped b c) ≡ true
     still = R.widest (F.capped b c) t h.allowed (C.stays_admissible b t c filed)
 
+    -- a body that was filed is capped as it says by itself
+    pub lowers : (priced F).capped b c ≡ F.capped b c
+    lowers = cond-true _ _ _ can
+
     less : (q : ℤ) → (priced F).cost ((priced F).capped b c) q ≤ℤ (priced F).cost b q
     less q = rw (can, still, C.same_top b t c filed) (elim (cases_Bool (int_le (pos 0) q && int_le q (F.top b))) [
       | inl in_range ↦ (

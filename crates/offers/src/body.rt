@@ -22,12 +22,9 @@ pub trait Body: Copy {
     fn limit(&self) -> i64
         ensures { result ≡ figures.top self.now };
 
-    // The cost of one hour at an output in kW, in thousandths of a centavo.
+    // The cost of one hour at an output in kW, in thousandths of a centavo: of a body that some book admits, at an output from 0 to its limit. Elsewhere it is any number.
     fn hour_cost(&self, output: i64) -> i64
-        requires admitted { possible figures self.now ≡ true }
-        requires low { pos 0 ≤ℤ output }
-        requires high { output ≤ℤ figures.top self.now }
-        ensures { result ≡ figures.cost self.now output };
+        ensures { possible figures self.now ≡ true → pos 0 ≤ℤ output → output ≤ℤ figures.top self.now → result ≡ figures.cost self.now output };
 
     // The price of a start that it names, in centavos.
     fn start(&self) -> i64
