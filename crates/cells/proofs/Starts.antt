@@ -1,7 +1,8 @@
 -- Where the cells of a line begin.
 use Rattle.std.proofs.Common.{◌≡◌, ℕ, zero, suc, ◌+◌, ◌<◌, ◌≤◌, List, [], ◌∷◌, length, get_or, take, drop, sym, refl, ap, ◌∙◌, subst, inl, inr, arith, get_or-drop, eqb, Option, Some, None, option_map, MatchOption, position, length-drop}
 use Rattle.std.proofs.lemmas.List.{drop-drop}
-use Rattle.std.proofs.lemmas.List.Sums.{sum_by-cons, sum_by_more}
+use Rattle.std.proofs.lemmas.List.Splits.{length-slice_split}
+use Rattle.std.proofs.lemmas.List.Sums.{sum_by-cons, sum_by_more, count_by-le-length}
 use Rattle.std.proofs.lemmas.List.Folds.{length-prefix_len}
 use Rattle.std.proofs.lemmas.Bool.{cases_lt, cond_below, cond_above}
 use Rattle.cells.specs.Parts.{up_to, cells, start_of, start_at, CellAt}
@@ -94,3 +95,30 @@ start_more bs from k None next e h = elim (cases_lt k (length (cells (drop from 
 start_more bs from k (Some at) next e h =
     let told = start_told bs from k at (sym e) in
     start_next bs from k told.0 next (rw told.1 at h)
+
+-- a start counts its cell, and from the next start on there are the others
+pub counted_more : (bs : List ℕ) (n m all : ℕ) (this next : Option ℕ) → MatchOption this (n ≡ all) (λ at. n + length (cells (drop at bs)) ≡ all) → MatchOption this (m ≡ n) (λ at. m ≡ n + 1)
+    → MatchOption this (next ≡ None) (λ at. next ≡ option_map (λ comma. at + comma + 1) (position (λ b. eqb b 44) (drop at bs))) → MatchOption next (m ≡ all) (λ at. m + length (cells (drop at bs)) ≡ all)
+counted_more bs n m all None next e h t = rw t (h ∙ e)
+counted_more bs n m all (Some start) next e h t =
+    let here = drop start bs in
+    elim (cases_lt (first_mark 44 here) (length here)) [
+      | inl l ↦ (
+          let more = ap length (parts_more 44 here l) in
+          let long : length (up_to 44 here) ≡ first_mark 44 here = length-prefix_len _ here in
+          let i : start + (length (up_to 44 here) + 1) ≡ start + first_mark 44 here + 1 = omega (arith, long) in
+          let past = ap (λ r. length (cells r)) (drop-drop (length (up_to 44 here) + 1) start bs ∙ ap (λ n. drop n bs) i) in
+          rw (t ∙ ap (option_map (λ comma. start + comma + 1)) (position_some 44 here l)) (omega (arith, e, h, more, past)))
+      | inr l ↦ (
+          let last = ap length (parts_last 44 here l) in
+          rw (t ∙ ap (option_map (λ comma. start + comma + 1)) (position_none 44 here l)) (omega (arith, e, h, last)))
+    ]
+
+-- the cells that were counted start by start, and those after them
+pub counted_all : (bs : List ℕ) (n more all : ℕ) (next : Option ℕ) → MatchOption next (n ≡ all) (λ at. n + length (cells (drop at bs)) ≡ all) → MatchOption next (more ≡ 0) (λ at. more ≡ length (cells (drop at bs))) → n + more ≡ all
+counted_all bs n more all None e h = omega (arith, e, h)
+counted_all bs n more all (Some start) e h = omega (arith, e, h)
+
+-- a line has at most one cell more than bytes
+pub cells_few : (line : List ℕ) → length (cells line) ≤ length line + 1
+cells_few line = omega (arith, length-slice_split (λ b. eqb b 44) line, count_by-le-length (λ b. eqb b 44) line)

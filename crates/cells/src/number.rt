@@ -21,7 +21,10 @@ fn natural(digits: &[u8]) -> Option<u32>
     }
     let mut n = 0;
     for d in digits {
-        n = n * 10 + char::from(*d).to_digit(10)?;
+        if !d.is_ascii_digit() {
+            return None;
+        }
+        n = n * 10 + u32::from(*d - b'0');
     }
     Some(n)
 }

@@ -2,15 +2,8 @@
 use Rattle.std.specs.Prelude.{ℕ}
 use Rattle.dayfile.specs.declared.fault.Fault.{Fault}
 use Rattle.dayfile.specs.declared.fault.Fault.TheVariants.{Names, BadCell, CellCount, Refused}
-use Rattle.dayfile.specs.declared.fault.Layer.{Layer}
 use Rattle.dayfile.specs.declared.fault.Layer.TheVariants.{File, Row, Book}
-
--- what a fault names, and its number
-pub record Told : Type 0 where
-  pub layer : Layer
-  pub line : ℕ
-  pub cell : ℕ
-  pub number : ℕ
+use Rattle.dayfile.specs.declared.fault.Told.{Told}
 
 -- 21: in the line of names, which is line 1, this cell is no new name, or names are missing from it on
 abbrev pub names_fault : ℕ → Told

@@ -21,6 +21,30 @@ pub enum Fault {
     Refused { line: usize, number: u32 },
 }
 
+// A fault as it is told: the layer that finds it, its line, its cell, and its number.
+#[derive(Clone, Copy, Debug, PartialEq, Eq)]
+pub struct Told {
+    pub layer: Layer,
+    pub line: usize,
+    pub cell: usize,
+    pub number: u32,
+}
+
+impl From<Fault> for Told {
+    ghost use Rattle.dayfile.specs.Faults.{told};
+
+    ghost from_gives = { λ fault t. t ≡ told fault };
+
+    fn from(fault: Fault) -> Told {
+        Told {
+            layer: fault.layer(),
+            line: fault.line(),
+            cell: fault.cell(),
+            number: fault.number(),
+        }
+    }
+}
+
 impl Fault {
     ghost use Rattle.dayfile.specs.Faults.{told};
 

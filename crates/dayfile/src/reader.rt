@@ -87,6 +87,19 @@ impl<'a> UnreadFile<'a> {
     }
 }
 
+impl<'a> RowReader<'a> {
+    ghost use Rattle.dayfile.specs.Files.{Next};
+    ghost use Rattle.dayfile.specs.Only.{RowsOnly};
+
+    // The next row, or none at the end, as `next`; and a line of values has one answer.
+    pub fn next_row(&mut self) -> Option<Entry>
+        ensures next { Next self.old result self.new }
+        ensures only { RowsOnly }
+    {
+        self.next()
+    }
+}
+
 // The rows, one for each line of values.
 impl<'a> Iterator for RowReader<'a> {
     ghost use Rattle.std.specs.Prelude.{length};

@@ -4,6 +4,7 @@ use Rattle.dayfile.specs.declared.entry.Entry.{Entry}
 use Rattle.dayfile.specs.declared.fault.Fault.{Fault}
 use Rattle.dayfile.specs.declared.fault.Layer.{Layer}
 use Rattle.dayfile.specs.declared.fault.Layer.TheVariants.{File, Row, Book}
+use Rattle.dayfile.specs.declared.fault.Told.{Told}
 use Rattle.dayfile.specs.declared.row.Row as row
 use Rattle.dayfile.specs.Faults.{told}
 use Rattle.report.specs.declared.reply.Reply.{Reply}
@@ -30,8 +31,12 @@ cell_of File cell = Some cell
 cell_of Row cell = Some cell
 cell_of Book cell = None
 
+-- whatever is told of a fault
+abbrev pub told_reply : Told → Reply
+told_reply t = record { line = t.line; answer = t.number; cell = cell_of t.layer t.cell }
+
 abbrev pub fault_reply : Fault → Reply
-fault_reply f = let t = told f in record { line = t.line; answer = t.number; cell = cell_of t.layer t.cell }
+fault_reply f = told_reply (told f)
 
 -- 0 where the row is well formed
 abbrev pub row_reply : ℕ → Result row.Row Fault → Reply

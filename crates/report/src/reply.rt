@@ -1,8 +1,8 @@
 ghost use Rattle.std.specs.Prelude.{◌≡◌, Some};
-ghost use Rattle.report.specs.Replies.{reply_text, fault_reply, entry_reply};
+ghost use Rattle.report.specs.Replies.{reply_text, told_reply, fault_reply, entry_reply};
 
 use dayfile::entry::Entry;
-use dayfile::fault::{Fault, Layer};
+use dayfile::fault::{Fault, Layer, Told};
 use std::fmt;
 
 // A printed line: the line of the file that it answers, 0 or a fault's number, and the cell at fault.
@@ -14,19 +14,28 @@ pub struct Reply {
     pub cell: Option<usize>,
 }
 
+// Of any layer, line, cell and number.
+impl From<Told> for Reply {
+    ghost from_gives = { λ told reply. reply ≡ told_reply told };
+
+    fn from(told: Told) -> Reply {
+        let cell = match told.layer {
+            Layer::File | Layer::Row => Some(told.cell),
+            Layer::Book => None,
+        };
+        Reply {
+            line: told.line,
+            answer: told.number,
+            cell,
+        }
+    }
+}
+
 impl From<Fault> for Reply {
     ghost from_gives = { λ fault reply. reply ≡ fault_reply fault };
 
     fn from(fault: Fault) -> Reply {
-        let cell = match fault.layer() {
-            Layer::File | Layer::Row => Some(fault.cell()),
-            Layer::Book => None,
-        };
-        Reply {
-            line: fault.line(),
-            answer: fault.number(),
-            cell,
-        }
+        Reply::from(Told::from(fault))
     }
 }
 

@@ -16,15 +16,19 @@ impl<'a, const N: usize> CutLine<'a, N> {
     {
         let mut starts = [None; N];
         let mut next = Some(from);
+        let mut count = 0;
         for start in &mut starts {
             *start = next;
+            count += usize::from(next.is_some());
             next = next.and_then(|at| start_after(bytes, at));
         }
+        // Beyond the first N, cells are only counted.
+        let more = next.map_or(0, |at| cells_from(bytes, at));
         CutLine {
             bytes,
             from,
             starts,
-            count: rest_from(bytes, from).split(|b| *b == b',').count(),
+            count: count + more,
         }
     }
 
@@ -42,6 +46,13 @@ impl<'a, const N: usize> CutLine<'a, N> {
         let start = self.starts.get(k).copied().flatten()?;
         Some(part_at(self.bytes, start, b','))
     }
+}
+
+// How many cells there are from one that begins at `at` on.
+fn cells_from(bytes: &[u8], at: usize) -> usize
+    ensures { result ≡ length (cells (drop at bytes.now)) }
+{
+    rest_from(bytes, at).split(|b| *b == b',').count()
 }
 
 // Where the next cell begins after the one at `at`, if there is one.

@@ -1,21 +1,13 @@
-use Rattle.std.proofs.Common.{length, ap, ◌∙◌, eqb, arith, rules, tests}
-use Rattle.std.proofs.lemmas.Iterator.Consumers.{count_from_yields_List}
-use Rattle.std.proofs.lemmas.Iterator.Splits.{YieldsList-from_slice_split}
+use Rattle.std.proofs.Common.{◌≡◌, ◌+◌, length, drop, arith, rules, tests, length-drop}
 use Rattle.cells.specs.Parts.{cells}
 use Rattle.cells.proofs.Rejoined.{cells_are_so}
-use Rattle.cells.proofs.Starts.{start_first, start_more}
+use Rattle.cells.proofs.Starts.{start_first, start_more, counted_more, counted_all, cells_few}
 use Rattle.std.proofs.lemmas.List.{length-replicate}
 use Rattle.std.proofs.lemmas.Grind.{common_steps}
 use Rattle.cells.proofs.line.CutLine.cut.Goals as goal
 
-pub invariant_of-result-clause-counted : goal.invariant_of-result-clause-counted
-invariant_of-result-clause-counted g c =
-    count_from_yields_List _ _ c.count.ensures.ran
-    (YieldsList-from_slice_split _ (λ b. eqb b 44) c.rest_from.result.now c.split.ensures.rest c.split.ensures.done c.split.ensures.closure (λ x b q k. search (rules, tests)))
-    ∙ ap (λ l. length (cells l)) c.rest_from.ensures
-
 pub loop-start-init : goal.loop-start-init
-loop-start-init g c = (length-replicate _ _, start_first c.args.bytes.now c.args.from, λ k l. absurd (omega arith))
+loop-start-init g c = (length-replicate _ _, start_first c.args.bytes.now c.args.from, λ k l. absurd (omega arith), omega arith, omega arith)
 
 pub loop-start-preserved : goal.loop-start-preserved
 loop-start-preserved g c =
@@ -23,7 +15,19 @@ loop-start-preserved g c =
       search rules,
       start_more c.args.bytes.now c.args.from c.loop-start.start-index _ _ inv.1 (search rules),
       λ k l. grind (arith, common_steps, inv.1, inv.2 k),
+      grind (arith, tests, c.from-count.ensures, inv.3),
+      counted_more c.args.bytes.now _ _ _ _ _ inv.4 (search rules) (search rules),
     )
+
+-- all the cells of the line
+all_counted : (g : _) (c : goal.After-map_or-more g) → c.loop-start.count + c.map_or-more.result ≡ length (cells (drop c.args.from c.args.bytes.now))
+all_counted g c = counted_all c.args.bytes.now _ _ _ _ c.loop-start.invariant.4 (search rules)
+
+pub overflow_add-result : goal.overflow_add-result
+overflow_add-result g c = omega (arith, c.well_formed, all_counted g c, cells_few (drop c.args.from c.args.bytes.now), length-drop c.args.from c.args.bytes.now)
+
+pub invariant_of-result-clause-counted : goal.invariant_of-result-clause-counted
+invariant_of-result-clause-counted g c = all_counted g c
 
 pub returns-clause-so : goal.returns-clause-so
 returns-clause-so g c = cells_are_so
