@@ -43,5 +43,10 @@ abbrev pub row_reply : ℕ → Result row.Row Fault → Reply
 row_reply n (Ok r) = record { line = n; answer = 0; cell = None }
 row_reply n (Err f) = fault_reply f
 
+-- whatever is told of the row's fault
+abbrev pub told_row_reply : ℕ → Result row.Row Told → Reply
+told_row_reply n (Ok r) = record { line = n; answer = 0; cell = None }
+told_row_reply n (Err t) = told_reply t
+
 abbrev pub entry_reply : Entry → Reply
 entry_reply e = row_reply e.line e.row

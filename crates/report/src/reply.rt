@@ -1,8 +1,9 @@
 ghost use Rattle.std.specs.Prelude.{◌≡◌, Some};
-ghost use Rattle.report.specs.Replies.{reply_text, told_reply, fault_reply, entry_reply};
+ghost use Rattle.report.specs.Replies.{reply_text, told_reply, fault_reply, told_row_reply, entry_reply};
 
 use dayfile::entry::Entry;
 use dayfile::fault::{Fault, Layer, Told};
+use dayfile::row::Row;
 use std::fmt;
 
 // A printed line: the line of the file that it answers, 0 or a fault's number, and the cell at fault.
@@ -39,19 +40,25 @@ impl From<Fault> for Reply {
     }
 }
 
-// 0 where the row is well formed.
 impl From<Entry> for Reply {
     ghost from_gives = { λ entry reply. reply ≡ entry_reply entry };
 
     fn from(entry: Entry) -> Reply {
-        match entry.row {
-            Ok(_) => Reply {
-                line: entry.line,
-                answer: 0,
-                cell: None,
-            },
-            Err(fault) => Reply::from(fault),
-        }
+        row_reply(entry.line, entry.row.map_err(Told::from))
+    }
+}
+
+// The reply to a line of values: 0 where the row is well formed, else whatever is told of its fault.
+pub fn row_reply(line: usize, row: Result<Row, Told>) -> Reply
+    ensures { result ≡ told_row_reply line row }
+{
+    match row {
+        Ok(_) => Reply {
+            line,
+            answer: 0,
+            cell: None,
+        },
+        Err(told) => Reply::from(told),
     }
 }
 
